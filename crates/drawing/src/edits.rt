@@ -1,0 +1,215 @@
+// Starting a drawing, and the edits of one at rest.
+ghost use mathlib.Core.Path.{_≡_};
+ghost use Rattle.drawing.specs.Edits.{start-checks, Starts-with-no-road};
+ghost use Rattle.drawing.specs.Edits.{add-checks, Appends-an-open-road};
+ghost use Rattle.drawing.specs.Edits.{set-checks, mark-checks, assign-checks, Changes-one-entry};
+ghost use Rattle.drawing.specs.Edits.{with-value, with-mark, in-district};
+ghost use Rattle.drawing.specs.Edits.{measure-check, size-check, junction-check, road-check};
+ghost use mathlib.Core.List.{[], _∷_};
+ghost use lib.ListN.{length};
+ghost use Rattle.drawing.specs.Outcomes.{verdict};
+ghost use Rattle.drawing.specs.declared.tables.Mark.the-variants.{Open, Closed};
+use super::Junction;
+use super::Mark;
+use super::Refusal;
+use super::Rest;
+use super::Road;
+use measure::Measure;
+
+// The limits of a drawing.
+pub const MOST_JUNCTIONS: u64 = 4_096;
+
+pub const MOST_DISTRICTS: u64 = 64;
+
+pub const MOST_ROADS: u64 = 16_384;
+
+fn check_start(junctions: u64, districts: u64, places: &[Junction]) -> Result<(), Refusal>
+    ensures { λ r. ⌜ r ≡ verdict (start-checks junctions districts (now (places .entry))) ⌝ }
+{
+    if junctions < 1 || junctions > MOST_JUNCTIONS {
+        return Err(Refusal::BadCount);
+    }
+    if districts < 1 || districts > MOST_DISTRICTS {
+        return Err(Refusal::BadCount);
+    }
+    if (places.len() as u64) < junctions {
+        return Err(Refusal::ShortTable { needed: junctions });
+    }
+    Ok(())
+}
+
+fn check_add<M: Measure>(
+    drawing: &Rest,
+    roads: &[Road],
+    first: u64,
+    second: u64,
+    value: u64,
+) -> Result<(), Refusal>
+    ensures { λ r. ⌜ r ≡ verdict (add-checks (M·Measure .scale) (now (drawing .entry)) (now (roads .entry)) first second value) ⌝ }
+{
+    drawing.check_measure::<M>()?;
+    drawing.check_roads(roads)?;
+    drawing.check_junction(first)?;
+    drawing.check_junction(second)?;
+    if first == second {
+        return Err(Refusal::EndsAlike);
+    }
+    if !M::is_lawful(value) {
+        return Err(Refusal::NotLawful);
+    }
+    if drawing.roads >= MOST_ROADS || drawing.roads >= roads.len() as u64 {
+        return Err(Refusal::RoadsFull);
+    }
+    Ok(())
+}
+
+impl Rest {
+    // A new drawing under the measure M: every junction in district 0, and no road.
+    pub fn start<M: Measure>(
+        junctions: u64,
+        districts: u64,
+        places: &mut [Junction],
+    ) -> Result<Rest, Refusal>
+        ensures { λ r. ⌜ Starts-with-no-road (M·Measure .scale) junctions districts (now (places .entry)) r (now (places .exit)) ⌝ }
+    {
+        check_start(junctions, districts, places)?;
+        for i in 0..junctions as usize {
+            places[i] = Junction { district: 0 };
+        }
+        Ok(Rest {
+            tag: M::tag_word(),
+            junctions,
+            districts,
+            roads: 0,
+        })
+    }
+
+    // Appends an open road between two junctions, and answers its number.
+    pub fn add<M: Measure>(
+        &mut self,
+        roads: &mut [Road],
+        first: u64,
+        second: u64,
+        value: u64,
+    ) -> Result<u64, Refusal>
+        ensures { λ r. ⌜ Appends-an-open-road (M·Measure .scale) (now (self .entry)) (now (roads .entry)) first second value r (now (self .exit)) (now (roads .exit)) ⌝ }
+    {
+        check_add::<M>(self, roads, first, second, value)?;
+        roads[self.roads as usize] = Road {
+            first,
+            second,
+            value,
+            mark: Mark::Open,
+        };
+        self.roads += 1;
+        Ok(self.roads)
+    }
+
+    // Changes the value of a road, open or closed.
+    pub fn set<M: Measure>(
+        &self,
+        roads: &mut [Road],
+        road: u64,
+        value: u64,
+    ) -> Result<(), Refusal>
+        ensures { λ r. ⌜ Changes-one-entry (set-checks (M·Measure .scale) (now (self .entry)) (now (roads .entry)) road value) (with-value value) road (now (roads .entry)) r (now (roads .exit)) ⌝ }
+    {
+        self.check_measure::<M>()?;
+        self.check_roads(roads)?;
+        self.check_road(road)?;
+        if !M::is_lawful(value) {
+            return Err(Refusal::NotLawful);
+        }
+        roads[road as usize - 1].value = value;
+        Ok(())
+    }
+
+    // Closes a road; a closed one stays closed.
+    pub fn close(&self, roads: &mut [Road], road: u64) -> Result<(), Refusal>
+        ensures { λ r. ⌜ Changes-one-entry (mark-checks (now (self .entry)) (now (roads .entry)) road) (with-mark Closed) road (now (roads .entry)) r (now (roads .exit)) ⌝ }
+    {
+        self.mark(roads, road, Mark::Closed)
+    }
+
+    // Opens a road again; an open one stays open.
+    pub fn reopen(&self, roads: &mut [Road], road: u64) -> Result<(), Refusal>
+        ensures { λ r. ⌜ Changes-one-entry (mark-checks (now (self .entry)) (now (roads .entry)) road) (with-mark Open) road (now (roads .entry)) r (now (roads .exit)) ⌝ }
+    {
+        self.mark(roads, road, Mark::Open)
+    }
+
+    // Moves a junction to a district.
+    pub fn assign(
+        &self,
+        places: &mut [Junction],
+        junction: u64,
+        district: u64,
+    ) -> Result<(), Refusal>
+        ensures { λ r. ⌜ Changes-one-entry (assign-checks (now (self .entry)) (now (places .entry)) junction district) (λ _. in-district district) junction (now (places .entry)) r (now (places .exit)) ⌝ }
+    {
+        self.check_places(places)?;
+        self.check_junction(junction)?;
+        if district >= self.districts {
+            return Err(Refusal::NoDistrict);
+        }
+        places[junction as usize - 1].district = district;
+        Ok(())
+    }
+
+    fn mark(&self, roads: &mut [Road], road: u64, mark: Mark) -> Result<(), Refusal>
+        ensures { λ r. ⌜ Changes-one-entry (mark-checks (now (self .entry)) (now (roads .entry)) road) (with-mark mark) road (now (roads .entry)) r (now (roads .exit)) ⌝ }
+    {
+        self.check_roads(roads)?;
+        self.check_road(road)?;
+        roads[road as usize - 1].mark = mark;
+        Ok(())
+    }
+
+    fn check_measure<M: Measure>(&self) -> Result<(), Refusal>
+        ensures { λ r. ⌜ r ≡ verdict (measure-check (M·Measure .scale) (now (self .entry)) ∷ []) ⌝ }
+    {
+        if self.tag == M::tag_word() {
+            Ok(())
+        } else {
+            Err(Refusal::OtherMeasure)
+        }
+    }
+
+    fn check_places(&self, places: &[Junction]) -> Result<(), Refusal>
+        ensures { λ r. ⌜ r ≡ verdict (size-check (now (self .entry) .junctions) (length (now (places .entry))) ∷ []) ⌝ }
+    {
+        if (places.len() as u64) < self.junctions {
+            return Err(Refusal::ShortTable {
+                needed: self.junctions,
+            });
+        }
+        Ok(())
+    }
+
+    fn check_roads(&self, roads: &[Road]) -> Result<(), Refusal>
+        ensures { λ r. ⌜ r ≡ verdict (size-check (now (self .entry) .roads) (length (now (roads .entry))) ∷ []) ⌝ }
+    {
+        if (roads.len() as u64) < self.roads {
+            return Err(Refusal::ShortTable { needed: self.roads });
+        }
+        Ok(())
+    }
+
+    fn check_junction(&self, junction: u64) -> Result<(), Refusal>
+        ensures { λ r. ⌜ r ≡ verdict (junction-check (now (self .entry)) junction ∷ []) ⌝ }
+    {
+        if junction < 1 || junction > self.junctions {
+            return Err(Refusal::NoJunction);
+        }
+        Ok(())
+    }
+
+    fn check_road(&self, road: u64) -> Result<(), Refusal>
+        ensures { λ r. ⌜ r ≡ verdict (road-check (now (self .entry)) road ∷ []) ⌝ }
+    {
+        if road < 1 || road > self.roads {
+            return Err(Refusal::NoRoad);
+        }
+        Ok(())
+    }
+}
