@@ -23,17 +23,23 @@ pub const MOST_DISTRICTS: u64 = 64;
 
 pub const MOST_ROADS: u64 = 16_384;
 
-fn check_start(junctions: u64, districts: u64, places: &[Junction]) -> Result<(), Refusal>
-    ensures { λ r. ⌜ r ≡ verdict (start-checks junctions districts (now (places .entry))) ⌝ }
+fn check_start(
+    junction_count: u64,
+    district_count: u64,
+    junctions: &[Junction],
+) -> Result<(), Refusal>
+    ensures { λ r. ⌜ r ≡ verdict (start-checks «junction_count» «district_count» (now (junctions .entry))) ⌝ }
 {
-    if junctions < 1 || junctions > MOST_JUNCTIONS {
+    if junction_count < 1 || junction_count > MOST_JUNCTIONS {
         return Err(Refusal::BadCount);
     }
-    if districts < 1 || districts > MOST_DISTRICTS {
+    if district_count < 1 || district_count > MOST_DISTRICTS {
         return Err(Refusal::BadCount);
     }
-    if (places.len() as u64) < junctions {
-        return Err(Refusal::ShortTable { needed: junctions });
+    if (junctions.len() as u64) < junction_count {
+        return Err(Refusal::ShortTable {
+            needed: junction_count,
+        });
     }
     Ok(())
 }
@@ -66,20 +72,20 @@ fn check_add<M: Measure>(
 impl Rest {
     // A new drawing under the measure M: every junction in district 0, and no road.
     pub fn start<M: Measure>(
-        junctions: u64,
-        districts: u64,
-        places: &mut [Junction],
+        junction_count: u64,
+        district_count: u64,
+        junctions: &mut [Junction],
     ) -> Result<Rest, Refusal>
-        ensures { λ r. ⌜ Starts-with-no-road (M·Measure .scale) junctions districts (now (places .entry)) r (now (places .exit)) ⌝ }
+        ensures { λ r. ⌜ Starts-with-no-road (M·Measure .scale) «junction_count» «district_count» (now (junctions .entry)) r (now (junctions .exit)) ⌝ }
     {
-        check_start(junctions, districts, places)?;
-        for i in 0..junctions as usize {
-            places[i] = Junction { district: 0 };
+        check_start(junction_count, district_count, junctions)?;
+        for i in 0..junction_count as usize {
+            junctions[i] = Junction { district: 0 };
         }
         Ok(Rest {
             tag: M::tag_word(),
-            junctions,
-            districts,
+            junctions: junction_count,
+            districts: district_count,
             roads: 0,
         })
     }
@@ -106,12 +112,7 @@ impl Rest {
     }
 
     // Changes the value of a road, open or closed.
-    pub fn set<M: Measure>(
-        &self,
-        roads: &mut [Road],
-        road: u64,
-        value: u64,
-    ) -> Result<(), Refusal>
+    pub fn set<M: Measure>(&self, roads: &mut [Road], road: u64, value: u64) -> Result<(), Refusal>
         ensures { λ r. ⌜ Changes-one-entry (set-checks (M·Measure .scale) (now (self .entry)) (now (roads .entry)) road value) (with-value value) road (now (roads .entry)) r (now (roads .exit)) ⌝ }
     {
         self.check_measure::<M>()?;
@@ -141,18 +142,18 @@ impl Rest {
     // Moves a junction to a district.
     pub fn assign(
         &self,
-        places: &mut [Junction],
+        junctions: &mut [Junction],
         junction: u64,
         district: u64,
     ) -> Result<(), Refusal>
-        ensures { λ r. ⌜ Changes-one-entry (assign-checks (now (self .entry)) (now (places .entry)) junction district) (λ _. in-district district) junction (now (places .entry)) r (now (places .exit)) ⌝ }
+        ensures { λ r. ⌜ Changes-one-entry (assign-checks (now (self .entry)) (now (junctions .entry)) junction district) (λ _. in-district district) junction (now (junctions .entry)) r (now (junctions .exit)) ⌝ }
     {
-        self.check_places(places)?;
+        self.check_junctions(junctions)?;
         self.check_junction(junction)?;
         if district >= self.districts {
             return Err(Refusal::NoDistrict);
         }
-        places[junction as usize - 1].district = district;
+        junctions[junction as usize - 1].district = district;
         Ok(())
     }
 
@@ -175,10 +176,10 @@ impl Rest {
         }
     }
 
-    fn check_places(&self, places: &[Junction]) -> Result<(), Refusal>
-        ensures { λ r. ⌜ r ≡ verdict (size-check (now (self .entry) .junctions) (length (now (places .entry))) ∷ []) ⌝ }
+    fn check_junctions(&self, junctions: &[Junction]) -> Result<(), Refusal>
+        ensures { λ r. ⌜ r ≡ verdict (size-check (now (self .entry) .junctions) (length (now (junctions .entry))) ∷ []) ⌝ }
     {
-        if (places.len() as u64) < self.junctions {
+        if (junctions.len() as u64) < self.junctions {
             return Err(Refusal::ShortTable {
                 needed: self.junctions,
             });

@@ -7,4 +7,4 @@ use Rattle.drawing.proofs.rest.Rest.assign.Needs as need
 pub returns : need.returns
 returns c =
     accepted _ _ _ _ (search needs)
-    (set-is-changed (λ _. in-district (c .args .district)) (c .args .places .now) _ (in-district 0) (search needs))
+    (set-is-changed (λ _. in-district (c .args .district)) (c .args .junctions .now) _ (in-district 0) (search needs))

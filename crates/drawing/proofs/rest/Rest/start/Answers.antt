@@ -9,12 +9,12 @@ use Rattle.drawing.proofs.Changed.{fill-more}
 use Rattle.drawing.proofs.rest.Rest.start.Needs as need
 
 pub loop-i-again : need.loop-i-again
-loop-i-again g c = rw (c .loop-i .inv) (fill-more (in-district 0) (c .args .places .now) (c .loop-i .i) (search needs))
+loop-i-again g c = rw (c .loop-i .inv) (fill-more (in-district 0) (c .args .junctions .now) (c .loop-i .i) (search needs))
 
 pub returns : need.returns
 returns g c =
-    let done : c .loop-i .i ≡ c .args .junctions = omega arith in
-    accepted _ _ _ _ (search needs)
-    ( record { tag = c .tag-word .ensures; junctions = refl; districts = refl; roads = refl },
-      c .loop-i .inv ∙ ap (λ n. replicate n (in-district 0) ++ drop n (c .args .places .now)) done
+    let done : c .loop-i .i ≡ c .args .junction-count = omega arith in
+    accepted _ _ _ _ (search needs) (
+      record { tag = c .tag-word .ensures; junctions = refl; districts = refl; roads = refl },
+      c .loop-i .inv ∙ ap (λ n. replicate n (in-district 0) ++ drop n (c .args .junctions .now)) done,
     )

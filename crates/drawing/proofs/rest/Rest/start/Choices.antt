@@ -6,4 +6,4 @@ use Rattle.drawing.proofs.rest.Rest.start.Given as given
 
 -- the first i junctions lie in district 0, and the others are as they were
 abbrev pub Inv-loop-i : given.InvT-loop-i
-Inv-loop-i g l = l .places ≡ replicate (l .i) (in-district 0) ++ drop (l .i) (l .entry .places)
+Inv-loop-i g l = l .junctions ≡ replicate (l .i) (in-district 0) ++ drop (l .i) (l .entry .junctions)

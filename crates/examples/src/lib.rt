@@ -1,0 +1,7 @@
+// Examples of what the libraries do, as tests.
+#[cfg(test)]
+mod edits;
+#[cfg(test)]
+mod limits;
+#[cfg(test)]
+mod measures;
