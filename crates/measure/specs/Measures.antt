@@ -1,4 +1,5 @@
 -- The two measures. Assumes nothing.
+use mathlib.Core.Path.{_≡_}
 use mathlib.Core.Bool.{_&&_}
 use Prim.Native.Nat.{_+_, min}
 use lib.Dec.{leb, ltb}
@@ -27,3 +28,7 @@ clearance = record {
   better = λ a b. ltb b a;
   join = λ a b. min a b;
 }
+
+-- no two measures share a tag
+abbrev pub Tags-differ : Type 0
+Tags-differ = metres .tag ≡ clearance .tag → ⊥

@@ -1,7 +1,7 @@
 // What a measure of roads is, the laws that every measure keeps, and the two measures: metres and clearance.
 ghost use mathlib.Core.Path.{_≡_};
 ghost use Rattle.measure.specs.Scale.{Scale, Laws, counts};
-ghost use Rattle.measure.specs.Measures.{metres, clearance};
+ghost use Rattle.measure.specs.Measures.{metres, clearance, Tags-differ};
 ghost use Rattle.measure.specs.Pairs.{Clearance-then-metres-is-no-measure};
 
 // A measure says how roads are valued: which words are values, which of two is better, how two join into one.
@@ -147,4 +147,9 @@ pub impl Measure for Clearance as ClearanceMeasure {
 // The theorem that "clearance first, then metres" is no measure; the call itself does nothing.
 pub fn clearance_then_metres_is_no_measure()
     ensures { λ _. ⌜ Clearance-then-metres-is-no-measure ⌝ }
+{}
+
+// The theorem that no two measures share a tag; the call itself does nothing.
+pub fn tags_differ()
+    ensures { λ _. ⌜ Tags-differ ⌝ }
 {}
