@@ -1,0 +1,3 @@
+pub mod Layout
+pub mod Words
+pub mod Bad
