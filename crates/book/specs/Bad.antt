@@ -20,7 +20,7 @@ among x (y ∷ ys) = eqb x y || among x ys
 abbrev pub bad-count : List ℕ → Counts → ℕ → Bool
 bad-count ws c i =
     getD
-    ( false
+    (false
     ∷ false
     ∷ not (within 1 4096 (c .junctions))
     ∷ not (within 1 64 (c .districts))
@@ -28,7 +28,7 @@ bad-count ws c i =
     ∷ ltb (c .junctions * c .borders) (c .border-entries)
     ∷ ltb (c .junctions * c .junctions) (c .district-entries)
     ∷ not (eqb (word ws 7) (total c))
-    ∷ [] ) i false
+    ∷ []) i false
 
 -- In the sections, j counts from the section's first word.
 

@@ -44,12 +44,22 @@ after x = x .first + x .size
 
 -- The six sections follow one another: the district of each junction, the border order, the offsets of the border rows, the
 -- border entries, the offsets of the district rows, the district entries. An entry has two words.
-abbrev pub places-at order-at border-offsets-at border-entries-at district-offsets-at district-entries-at : Counts → Section
+abbrev pub places-at : Counts → Section
 places-at c = section 8 (c .junctions)
+
+abbrev pub order-at : Counts → Section
 order-at c = section (after (places-at c)) (c .borders)
+
+abbrev pub border-offsets-at : Counts → Section
 border-offsets-at c = section (after (order-at c)) (c .junctions + 1)
+
+abbrev pub border-entries-at : Counts → Section
 border-entries-at c = section (after (border-offsets-at c)) (2 * c .border-entries)
+
+abbrev pub district-offsets-at : Counts → Section
 district-offsets-at c = section (after (border-entries-at c)) (c .junctions + 1)
+
+abbrev pub district-entries-at : Counts → Section
 district-entries-at c = section (after (district-offsets-at c)) (2 * c .district-entries)
 
 -- the words of a section

@@ -1,3 +1,2 @@
-pub mod Accepted
-pub mod Changed
+pub mod Filled
 pub mod Numerals

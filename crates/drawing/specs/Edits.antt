@@ -2,9 +2,9 @@
 use mathlib.Core.Path.{_≡_}
 use mathlib.Core.Bool.{Bool, not, _&&_, _||_}
 use mathlib.Core.List.{List, [], _∷_, _++_}
-use Prim.Native.Nat.{ℕ, zero, suc, _+_, _-_}
+use Prim.Native.Nat.{ℕ, _+_, _-_}
 use lib.Dec.{eqb, leb, ltb}
-use lib.ListN.{length, set, drop, replicate}
+use lib.ListN.{length, getD, set, drop, replicate}
 use Rattle.std.specs.declared.result.Result.{Result}
 use Rattle.measure.specs.Scale.{Scale}
 use Rattle.drawing.specs.Outcomes.{Check, refuse, verdict, Ends}
@@ -55,6 +55,10 @@ start-checks n m junctions =
 abbrev pub in-district : ℕ → Junction
 in-district k = record { district = k }
 
+-- the junction table with its first n entries in district 0
+abbrev pub all-in-district-0 : ℕ → List Junction → List Junction
+all-in-district-0 n junctions = replicate n (in-district 0) ++ drop n junctions
+
 -- the drawing has the measure's tag, these counts, and no road
 pub record Fresh (s : Scale) (n m : ℕ) (d : Rest) : Type 0 where
   pub tag : d .tag ≡ s .tag
@@ -65,7 +69,7 @@ pub record Fresh (s : Scale) (n m : ℕ) (d : Rest) : Type 0 where
 abbrev pub Starts-with-no-road : Scale → ℕ → ℕ → List Junction → Result Rest Refusal → List Junction → Type 0
 Starts-with-no-road s n m junctions r after =
     Ends (verdict (start-checks n m junctions)) r (after ≡ junctions)
-    (λ d. Fresh s n m d × (after ≡ replicate n (in-district 0) ++ drop n junctions))
+    (λ d. Fresh s n m d × (after ≡ all-in-district-0 n junctions))
 
 -- ADD: one open road more, after those that stand; its number is their count.
 
@@ -97,15 +101,16 @@ Appends-an-open-road s d roads u v x r e after =
 
 -- SET, CLOSE, REOPEN, ASSIGN: one entry of a table changes, and no other.
 
--- the list with its entry number i, counted from 0, changed by f; as it was where it has none
-abbrev pub changed : {A : Type 0} → (A → A) → List A → ℕ → List A
-changed f [] i = []
-changed f (x ∷ xs) zero = f x ∷ xs
-changed f (x ∷ xs) (suc i) = x ∷ changed f xs i
+-- The table with its entry number i, counted from 1, changed by f. (`blank` would be changed if there were no such entry; the
+-- checks see to it that there is one.)
+abbrev pub with-entry : {A : Type 0} → A → (A → A) → ℕ → List A → List A
+with-entry blank f i table = set table (i - 1) (f (getD table (i - 1) blank))
 
+-- the road with another value
 abbrev pub with-value : ℕ → Road → Road
 with-value x r = record { first = r .first; second = r .second; value = x; mark = r .mark }
 
+-- the road with another mark
 abbrev pub with-mark : Mark → Road → Road
 with-mark m r = record { first = r .first; second = r .second; value = r .value; mark = m }
 
@@ -113,14 +118,24 @@ abbrev pub set-checks : Scale → Rest → List Road → ℕ → ℕ → List Ch
 set-checks s d roads i x =
     measure-check s d ∷ size-check (d .roads) (length roads) ∷ road-check d i ∷ value-check s x ∷ []
 
+abbrev pub Changes-one-value : Scale → Rest → List Road → ℕ → ℕ → Result Unit Refusal → List Road → Type 0
+Changes-one-value s d roads i x r after =
+    Ends (verdict (set-checks s d roads i x)) r (after ≡ roads)
+    (λ _. after ≡ with-entry (open-road 0 0 0) (with-value x) i roads)
+
 abbrev pub mark-checks : Rest → List Road → ℕ → List Check
 mark-checks d roads i = size-check (d .roads) (length roads) ∷ road-check d i ∷ []
+
+abbrev pub Changes-one-mark : Rest → List Road → ℕ → Mark → Result Unit Refusal → List Road → Type 0
+Changes-one-mark d roads i m r after =
+    Ends (verdict (mark-checks d roads i)) r (after ≡ roads)
+    (λ _. after ≡ with-entry (open-road 0 0 0) (with-mark m) i roads)
 
 abbrev pub assign-checks : Rest → List Junction → ℕ → ℕ → List Check
 assign-checks d junctions v k =
     size-check (d .junctions) (length junctions) ∷ junction-check d v ∷ district-check d k ∷ []
 
--- the call changes entry number i of the table, counted from 1, by f
-abbrev pub Changes-one-entry : {A : Type 0} → List Check → (A → A) → ℕ → List A → Result Unit Refusal → List A → Type 0
-Changes-one-entry checks f i table r after =
-    Ends (verdict checks) r (after ≡ table) (λ _. after ≡ changed f table (i - 1))
+abbrev pub Moves-one-junction : Rest → List Junction → ℕ → ℕ → Result Unit Refusal → List Junction → Type 0
+Moves-one-junction d junctions v k r after =
+    Ends (verdict (assign-checks d junctions v k)) r (after ≡ junctions)
+    (λ _. after ≡ with-entry (in-district 0) (λ _. in-district k) v junctions)

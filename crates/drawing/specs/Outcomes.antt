@@ -23,4 +23,5 @@ verdict (c ∷ cs) = cond (c .fails) (Err (c .refusal)) (verdict cs)
 -- `same` holds: nothing has changed. If none did, r is an answer, of which `done` holds.
 abbrev pub Ends : {A : Type 0} → Result Unit Refusal → Result A Refusal → Type 0 → (A → Type 0) → Type 0
 Ends (Err x) r same done = (r ≡ Err x) × same
-Ends {A} (Ok _) r same done = (a : A) × (r ≡ Ok a) × done a
+Ends (Ok _) (Ok a) same done = done a
+Ends (Ok _) (Err x) same done = ⊥

@@ -1,11 +1,11 @@
 // Starting a drawing, and the edits of one at rest.
 ghost use mathlib.Core.Path.{_≡_};
-ghost use Rattle.drawing.specs.Edits.{start-checks, Starts-with-no-road};
+ghost use Rattle.drawing.specs.Edits.{start-checks, all-in-district-0, Starts-with-no-road};
 ghost use Rattle.drawing.specs.Edits.{add-checks, Appends-an-open-road};
-ghost use Rattle.drawing.specs.Edits.{set-checks, mark-checks, assign-checks, Changes-one-entry};
-ghost use Rattle.drawing.specs.Edits.{with-value, with-mark, in-district};
+ghost use Rattle.drawing.specs.Edits.{Changes-one-value, Changes-one-mark, Moves-one-junction};
 ghost use Rattle.drawing.specs.Edits.{measure-check, size-check, junction-check, road-check};
 ghost use mathlib.Core.List.{[], _∷_};
+ghost use Prim.Native.Nat.{_≤_};
 ghost use lib.ListN.{length};
 ghost use Rattle.drawing.specs.Outcomes.{verdict};
 ghost use Rattle.drawing.specs.declared.tables.Mark.the-variants.{Open, Closed};
@@ -69,6 +69,16 @@ fn check_add<M: Measure>(
     Ok(())
 }
 
+// Puts the first `count` junctions of the table into district 0.
+fn clear(junctions: &mut [Junction], count: usize)
+    requires { ⌜ count ≤ length (now junctions) ⌝ }
+    ensures { λ _. ⌜ now (junctions .exit) ≡ all-in-district-0 count (now (junctions .entry)) ⌝ }
+{
+    for i in 0..count {
+        junctions[i] = Junction { district: 0 };
+    }
+}
+
 impl Rest {
     // A new drawing under the measure M: every junction in district 0, and no road.
     pub fn start<M: Measure>(
@@ -79,9 +89,7 @@ impl Rest {
         ensures { λ r. ⌜ Starts-with-no-road (M·Measure .scale) «junction_count» «district_count» (now (junctions .entry)) r (now (junctions .exit)) ⌝ }
     {
         check_start(junction_count, district_count, junctions)?;
-        for i in 0..junction_count as usize {
-            junctions[i] = Junction { district: 0 };
-        }
+        clear(junctions, junction_count as usize);
         Ok(Rest {
             tag: M::tag_word(),
             junctions: junction_count,
@@ -113,7 +121,7 @@ impl Rest {
 
     // Changes the value of a road, open or closed.
     pub fn set<M: Measure>(&self, roads: &mut [Road], road: u64, value: u64) -> Result<(), Refusal>
-        ensures { λ r. ⌜ Changes-one-entry (set-checks (M·Measure .scale) (now (self .entry)) (now (roads .entry)) road value) (with-value value) road (now (roads .entry)) r (now (roads .exit)) ⌝ }
+        ensures { λ r. ⌜ Changes-one-value (M·Measure .scale) (now (self .entry)) (now (roads .entry)) road value r (now (roads .exit)) ⌝ }
     {
         self.check_measure::<M>()?;
         self.check_roads(roads)?;
@@ -127,14 +135,14 @@ impl Rest {
 
     // Closes a road; a closed one stays closed.
     pub fn close(&self, roads: &mut [Road], road: u64) -> Result<(), Refusal>
-        ensures { λ r. ⌜ Changes-one-entry (mark-checks (now (self .entry)) (now (roads .entry)) road) (with-mark Closed) road (now (roads .entry)) r (now (roads .exit)) ⌝ }
+        ensures { λ r. ⌜ Changes-one-mark (now (self .entry)) (now (roads .entry)) road Closed r (now (roads .exit)) ⌝ }
     {
         self.mark(roads, road, Mark::Closed)
     }
 
     // Opens a road again; an open one stays open.
     pub fn reopen(&self, roads: &mut [Road], road: u64) -> Result<(), Refusal>
-        ensures { λ r. ⌜ Changes-one-entry (mark-checks (now (self .entry)) (now (roads .entry)) road) (with-mark Open) road (now (roads .entry)) r (now (roads .exit)) ⌝ }
+        ensures { λ r. ⌜ Changes-one-mark (now (self .entry)) (now (roads .entry)) road Open r (now (roads .exit)) ⌝ }
     {
         self.mark(roads, road, Mark::Open)
     }
@@ -146,7 +154,7 @@ impl Rest {
         junction: u64,
         district: u64,
     ) -> Result<(), Refusal>
-        ensures { λ r. ⌜ Changes-one-entry (assign-checks (now (self .entry)) (now (junctions .entry)) junction district) (λ _. in-district district) junction (now (junctions .entry)) r (now (junctions .exit)) ⌝ }
+        ensures { λ r. ⌜ Moves-one-junction (now (self .entry)) (now (junctions .entry)) junction district r (now (junctions .exit)) ⌝ }
     {
         self.check_junctions(junctions)?;
         self.check_junction(junction)?;
@@ -158,7 +166,7 @@ impl Rest {
     }
 
     fn mark(&self, roads: &mut [Road], road: u64, mark: Mark) -> Result<(), Refusal>
-        ensures { λ r. ⌜ Changes-one-entry (mark-checks (now (self .entry)) (now (roads .entry)) road) (with-mark mark) road (now (roads .entry)) r (now (roads .exit)) ⌝ }
+        ensures { λ r. ⌜ Changes-one-mark (now (self .entry)) (now (roads .entry)) road mark r (now (roads .exit)) ⌝ }
     {
         self.check_roads(roads)?;
         self.check_road(road)?;
