@@ -2,13 +2,18 @@
 use mathlib.Core.Path.{_≡_}
 use mathlib.Core.Bool.{Bool, true, false, cond, not, _&&_, _||_}
 use mathlib.Core.List.{List, [], _∷_}
-use Prim.Native.Nat.{ℕ, _+_, _-_, _*_, _/_, _%_, _<_}
+use Prim.Native.Nat.{ℕ, _+_, _-_, _*_, _/_, _%_, _<_, _≤_}
 use lib.Dec.{eqb, leb, ltb}
 use lib.ListN.{length, getD, take, drop}
 use Rattle.std.specs.shelf.Lists.{kept-by}
 use Rattle.measure.specs.Scale.{Scale}
 use Rattle.drawing.specs.Edits.{within}
-use Rattle.book.specs.Layout.{word, Counts, counts-of, total, Section, section, places-at, order-at, border-offsets-at, border-entries-at, district-offsets-at, district-entries-at, words-in}
+use Rattle.std.specs.declared.option.Option.{Option}
+use Rattle.std.specs.declared.option.Option.the-variants.{Some, None}
+use Rattle.book.specs.declared.counts.Counts.{Counts}
+use Rattle.book.specs.declared.names.Names.{Names}
+use Rattle.book.specs.declared.names.Names.the-variants.{Ranks, Hubs}
+use Rattle.book.specs.Layout.{word, counts-of, total, Section, section, places-at, order-at, border-offsets-at, border-entries-at, district-offsets-at, district-entries-at, words-in}
 
 -- x is one of the list
 abbrev pub among : ℕ → List ℕ → Bool
@@ -17,17 +22,17 @@ among x (y ∷ ys) = eqb x y || among x ys
 
 -- Words 0 to 7, each by its place: the counts lie within their limits, and word 7 is the number of all words. (Words 0 and 1 are
 -- checked before this.)
-abbrev pub bad-count : List ℕ → Counts → ℕ → Bool
-bad-count ws c i =
+abbrev pub bad-count : Counts → ℕ → Bool
+bad-count c i =
     getD
     (false
     ∷ false
     ∷ not (within 1 4096 (c .junctions))
     ∷ not (within 1 64 (c .districts))
     ∷ ltb (c .junctions) (c .borders)
-    ∷ ltb (c .junctions * c .borders) (c .border-entries)
-    ∷ ltb (c .junctions * c .junctions) (c .district-entries)
-    ∷ not (eqb (word ws 7) (total c))
+    ∷ ltb (c .junctions * c .borders) (c .«border_entries»)
+    ∷ ltb (c .junctions * c .junctions) (c .«district_entries»)
+    ∷ not (eqb (c .words) (total c))
     ∷ []) i false
 
 -- In the sections, j counts from the section's first word.
@@ -66,13 +71,11 @@ bad-entry s ws offsets x right j =
     (not (right (row-of ws offsets (j / 2)) (word ws (x .first + j)))
     || (not (begins-a-row ws offsets (j / 2)) && leb (word ws (x .first + j)) (word ws (x .first + (j - 2)))))
 
--- a rank is below the number of borders
-abbrev pub right-rank : Counts → ℕ → ℕ → Bool
-right-rank c v h = ltb h (c .borders)
-
--- a hub is a junction of the same district as the row's
-abbrev pub right-hub : List ℕ → Counts → ℕ → ℕ → Bool
-right-hub ws c v h =
+-- a name of a hub is right in the row of junction v: a rank is below the number of borders, and a hub of a district row is a
+-- junction of the same district as v
+abbrev pub right-name : List ℕ → Counts → Names → ℕ → ℕ → Bool
+right-name ws c Ranks v h = ltb h (c .borders)
+right-name ws c Hubs v h =
     within 1 (c .junctions) h && eqb (word ws ((places-at c) .first + (h - 1))) (word ws ((places-at c) .first + (v - 1)))
 
 -- a part of the words: where it lies, and which of its words are bad
@@ -86,13 +89,13 @@ part x b = record { lies = x; bad = b }
 -- all parts of a book, in order
 abbrev pub parts : Scale → List ℕ → Counts → List Part
 parts s ws c =
-    part (section 0 8) (bad-count ws c)
+    part (section 0 8) (bad-count c)
     ∷ part (places-at c) (bad-district ws c)
     ∷ part (order-at c) (bad-border ws c)
-    ∷ part (border-offsets-at c) (bad-offset ws (border-offsets-at c) (c .border-entries))
-    ∷ part (border-entries-at c) (bad-entry s ws (border-offsets-at c) (border-entries-at c) (right-rank c))
-    ∷ part (district-offsets-at c) (bad-offset ws (district-offsets-at c) (c .district-entries))
-    ∷ part (district-entries-at c) (bad-entry s ws (district-offsets-at c) (district-entries-at c) (right-hub ws c))
+    ∷ part (border-offsets-at c) (bad-offset ws (border-offsets-at c) (c .«border_entries»))
+    ∷ part (border-entries-at c) (bad-entry s ws (border-offsets-at c) (border-entries-at c) (right-name ws c Ranks))
+    ∷ part (district-offsets-at c) (bad-offset ws (district-offsets-at c) (c .«district_entries»))
+    ∷ part (district-entries-at c) (bad-entry s ws (district-offsets-at c) (district-entries-at c) (right-name ws c Hubs))
     ∷ []
 
 -- the place i lies in a part, and its word there is bad
@@ -112,3 +115,8 @@ First-bad s ws i = (bad s ws i ≡ true) × ((j : ℕ) → j < i → bad s ws j 
 -- no word is bad
 abbrev pub None-bad : Scale → List ℕ → Type 0
 None-bad s ws = (j : ℕ) → bad s ws j ≡ false
+
+-- r is the first place from low on and below high at which a test holds, if there is one
+abbrev pub Finds : (ℕ → Bool) → ℕ → ℕ → Option ℕ → Type 0
+Finds test low high None = (j : ℕ) → low ≤ j → j < high → test j ≡ false
+Finds test low high (Some i) = (low ≤ i) × (i < high) × (test i ≡ true) × ((j : ℕ) → low ≤ j → j < i → test j ≡ false)

@@ -1,20 +1,15 @@
 -- How a book lies in its words: eight words of counts, then six sections. Assumes nothing.
+use mathlib.Core.Path.{_≡_}
 use mathlib.Core.List.{List, [], _∷_}
-use Prim.Native.Nat.{ℕ, _+_, _-_, _*_}
+use Prim.Native.Nat.{ℕ, _+_, _-_, _*_, _≤_}
 use lib.ListN.{length, getD, take, drop}
 use Rattle.network.specs.Labels.{Entry, entry}
+use Rattle.book.specs.declared.counts.Counts.{Counts}
+use Rattle.book.specs.declared.span.Span.{Span}
 
 -- the word at a place, counted from 0
 abbrev pub word : List ℕ → ℕ → ℕ
 word ws i = getD ws i 0
-
--- The counts of a book: junctions, districts, borders, border entries, district entries.
-pub record Counts : Type 0 where
-  pub junctions : ℕ
-  pub districts : ℕ
-  pub borders : ℕ
-  pub border-entries : ℕ
-  pub district-entries : ℕ
 
 -- Words 0 to 7 are the layout's number, the measure's tag, the counts, and the number of all words of the book.
 abbrev pub counts-of : List ℕ → Counts
@@ -22,13 +17,14 @@ counts-of ws = record {
   junctions = word ws 2;
   districts = word ws 3;
   borders = word ws 4;
-  border-entries = word ws 5;
-  district-entries = word ws 6;
+  «border_entries» = word ws 5;
+  «district_entries» = word ws 6;
+  words = word ws 7;
 }
 
 -- how many words a book with these counts has
 abbrev pub total : Counts → ℕ
-total c = 10 + 3 * c .junctions + c .borders + 2 * c .border-entries + 2 * c .district-entries
+total c = 10 + 3 * c .junctions + c .borders + 2 * c .«border_entries» + 2 * c .«district_entries»
 
 -- a section of a book: the place of its first word, and its length in words
 pub record Section : Type 0 where
@@ -54,13 +50,23 @@ abbrev pub border-offsets-at : Counts → Section
 border-offsets-at c = section (after (order-at c)) (c .junctions + 1)
 
 abbrev pub border-entries-at : Counts → Section
-border-entries-at c = section (after (border-offsets-at c)) (2 * c .border-entries)
+border-entries-at c = section (after (border-offsets-at c)) (2 * c .«border_entries»)
 
 abbrev pub district-offsets-at : Counts → Section
 district-offsets-at c = section (after (border-entries-at c)) (c .junctions + 1)
 
 abbrev pub district-entries-at : Counts → Section
-district-entries-at c = section (after (district-offsets-at c)) (2 * c .district-entries)
+district-entries-at c = section (after (district-offsets-at c)) (2 * c .«district_entries»)
+
+-- the span is this section, in a book of so many words
+pub record Spans (x : Section) (words : ℕ) (p : Span) : Type 0 where
+  pub first : p .first ≡ x .first
+  pub length : p .length ≡ x .size
+  pub total : p .total ≡ words
+
+-- Where the counts do not need more words than they say there are, the span is the section that they give.
+abbrev pub Is-section : Counts → (Counts → Section) → Span → Type 0
+Is-section c x p = total c ≤ c .words → Spans (x c) (c .words) p
 
 -- the words of a section
 abbrev pub words-in : Section → List ℕ → List ℕ
@@ -72,8 +78,15 @@ entries [] = []
 entries (h ∷ []) = []
 entries (h ∷ x ∷ ws) = entry h x ∷ entries ws
 
--- The part of the entries' section that junction v has: from offset number v - 1 to offset number v, in entries.
-abbrev pub row-section : Section → Section → List ℕ → ℕ → Section
-row-section offsets rows ws v =
+-- The part of the entries that is the row of junction v: from offset number v - 1 to offset number v, counted in entries.
+abbrev pub row-at : Section → Section → List ℕ → ℕ → Section
+row-at offsets rows ws v =
     section (rows .first + 2 * word ws (offsets .first + (v - 1)))
     (2 * (word ws (offsets .first + v) - word ws (offsets .first + (v - 1))))
+
+-- the words of the border row and of the district row of junction v
+abbrev pub border-row-words : List ℕ → ℕ → List ℕ
+border-row-words ws v = words-in (row-at (border-offsets-at (counts-of ws)) (border-entries-at (counts-of ws)) ws v) ws
+
+abbrev pub district-row-words : List ℕ → ℕ → List ℕ
+district-row-words ws v = words-in (row-at (district-offsets-at (counts-of ws)) (district-entries-at (counts-of ws)) ws v) ws

@@ -1,13 +1,12 @@
 -- The words of the book of a network. Assumes nothing.
 use mathlib.Core.List.{List, [], _∷_, _++_, map}
-use Prim.Native.Nat.{ℕ, _+_}
+use Prim.Native.Nat.{ℕ, _+_, _*_}
 use lib.ListN.{length}
 use Rattle.measure.specs.Scale.{Scale}
 use Rattle.network.specs.Lists.{count-up}
 use Rattle.network.specs.Networks.{Network}
 use Rattle.network.specs.Labels.{Entry}
 use Rattle.network.specs.Rows.{border-row, district-row}
-use Rattle.book.specs.Layout.{Counts, total}
 
 -- the rows of all junctions, in order
 abbrev pub border-rows : Scale → Network → List ℕ → List (List Entry)
@@ -31,28 +30,31 @@ abbrev pub entry-words : List Entry → List ℕ
 entry-words [] = []
 entry-words (e ∷ es) = e .hub ∷ e .worth ∷ entry-words es
 
--- the counts of the book
-abbrev pub counts : Scale → Network → List ℕ → Counts
-counts s net order = record {
-  junctions = net .junctions;
-  districts = net .districts;
-  borders = length order;
-  border-entries = length (all-entries (border-rows s net order));
-  district-entries = length (all-entries (district-rows s net));
-}
+-- the book's counts, as words 2 to 6 have them: junctions, districts, borders, border entries, district entries
+abbrev pub count-words : Scale → Network → List ℕ → List ℕ
+count-words s net order =
+    net .junctions
+    ∷ net .districts
+    ∷ length order
+    ∷ length (all-entries (border-rows s net order))
+    ∷ length (all-entries (district-rows s net))
+    ∷ []
 
--- the first eight words
-abbrev pub head-words : Scale → Counts → List ℕ
-head-words s c =
-    1 ∷ s .tag ∷ c .junctions ∷ c .districts ∷ c .borders ∷ c .border-entries ∷ c .district-entries ∷ total c ∷ []
+-- how many words the book has
+abbrev pub book-size : Scale → Network → List ℕ → ℕ
+book-size s net order =
+    10 + 3 * net .junctions + length order + 2 * length (all-entries (border-rows s net order))
+    + 2 * length (all-entries (district-rows s net))
 
 -- all words of the book of a network, under a border order
 abbrev pub words : Scale → Network → List ℕ → List ℕ
 words s net order =
-    head-words s (counts s net order)
+    (1 ∷ s .tag ∷ [])
+    ++ (count-words s net order
+    ++ ((book-size s net order ∷ [])
     ++ (net .places
     ++ (order
     ++ (offsets-from 0 (border-rows s net order)
     ++ (entry-words (all-entries (border-rows s net order))
     ++ (offsets-from 0 (district-rows s net)
-    ++ entry-words (all-entries (district-rows s net)))))))
+    ++ entry-words (all-entries (district-rows s net)))))))))

@@ -1,2 +1,15 @@
 // The words of a book, opening it, its rows, and the join of two rows.
-pub fn nothing() {}
+mod counts;
+mod joining;
+mod names;
+mod opened;
+mod opening;
+mod rows;
+mod sections;
+mod span;
+
+pub use counts::Counts;
+pub use names::Names;
+pub use opened::Book;
+pub use opening::open;
+pub use span::Span;

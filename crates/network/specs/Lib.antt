@@ -4,4 +4,5 @@ pub mod Networks
 pub mod Labels
 pub mod Rows
 pub mod Theorems
-pub mod Six
+pub mod Worked
+pub mod Misleading

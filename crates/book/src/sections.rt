@@ -1,0 +1,66 @@
+// The six sections of a book, each beginning where the one before it ends.
+ghost use Prim.Native.Nat.{_≤_};
+ghost use Rattle.book.specs.Layout.{total, Is-section};
+ghost use Rattle.book.specs.Layout.{places-at, order-at, border-offsets-at, border-entries-at, district-offsets-at, district-entries-at};
+use super::Counts;
+use super::Span;
+
+impl Counts {
+    // The district of each junction.
+    pub fn places(&self) -> Span
+        ensures { λ r. ⌜ Is-section (now (self .entry)) places-at r ⌝ }
+    {
+        Span::new(8, self.junctions, self.words)
+    }
+
+    // The border order.
+    pub fn order(&self) -> Span
+        ensures { λ r. ⌜ Is-section (now (self .entry)) order-at r ⌝ }
+    {
+        Span::new(self.places().after(), self.borders, self.words)
+    }
+
+    // The offsets of the border rows.
+    pub fn border_offsets(&self) -> Span
+        ensures { λ r. ⌜ Is-section (now (self .entry)) border-offsets-at r ⌝ }
+    {
+        Span::new(
+            self.order().after(),
+            self.junctions.saturating_add(1),
+            self.words,
+        )
+    }
+
+    // The border entries.
+    pub fn border_entries(&self) -> Span
+        ensures { λ r. ⌜ Is-section (now (self .entry)) border-entries-at r ⌝ }
+    {
+        Span::new(
+            self.border_offsets().after(),
+            self.border_entries.saturating_mul(2),
+            self.words,
+        )
+    }
+
+    // The offsets of the district rows.
+    pub fn district_offsets(&self) -> Span
+        ensures { λ r. ⌜ Is-section (now (self .entry)) district-offsets-at r ⌝ }
+    {
+        Span::new(
+            self.border_entries().after(),
+            self.junctions.saturating_add(1),
+            self.words,
+        )
+    }
+
+    // The district entries.
+    pub fn district_entries(&self) -> Span
+        ensures { λ r. ⌜ Is-section (now (self .entry)) district-entries-at r ⌝ }
+    {
+        Span::new(
+            self.district_offsets().after(),
+            self.district_entries.saturating_mul(2),
+            self.words,
+        )
+    }
+}
