@@ -1,3 +1,4 @@
 pub mod Distance
 pub mod Order
 pub mod Lists
+pub mod Walks
