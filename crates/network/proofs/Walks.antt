@@ -1,11 +1,12 @@
 -- Walks joined, walks turned round, and their values. Assumes nothing.
 use mathlib.Core.Path.{_≡_, refl, sym, ap, _∙_, subst}
 use mathlib.Core.List.{List, [], _∷_, _++_}
+use mathlib.Core.Logic.{_⊎_, inl, inr}
 use Prim.Native.Nat.{ℕ}
 use Rattle.measure.specs.Scale.{Scale, Value, Laws}
 use Rattle.network.specs.Lists.{In}
-use Rattle.network.specs.Walks.{Arc, arc, Walk, walk-value}
-use Rattle.network.proofs.Order.{start-changes-nothing-behind}
+use Rattle.network.specs.Walks.{Arc, arc, Walk, walk-value, Walked}
+use Rattle.network.proofs.Order.{start-changes-nothing-behind, none-stays-none-behind}
 
 -- an arc the other way, with the same value
 abbrev pub turned : Arc → Arc
@@ -15,6 +16,10 @@ turned a = arc (a .to) (a .from) (a .worth)
 abbrev pub backwards : List Arc → List Arc
 backwards [] = []
 backwards (a ∷ w) = backwards w ++ (turned a ∷ [])
+
+-- x is none, or the value of a walk from u to v
+abbrev pub Reached : Scale → List Arc → ℕ → ℕ → ℕ → Type 0
+Reached s arcs u v x = (x ≡ s .none) ⊎ Walked s arcs u v x
 
 -- a walk of some arcs is a walk of more arcs
 pub walk-of-more-arcs :
@@ -66,3 +71,18 @@ module _ (s : Scale) (laws : Laws s) (arcs : List Arc) (worths : (a : Arc) → I
       ∙ ap (λ x. s .join x (walk-value s (turned a ∷ []))) (value-backwards turn (a .to) v w k)
       ∙ ap (λ x. s .join (walk-value s w) x) (value-of-one-arc (turned a) (turn a i))
       ∙ laws .join-is-commutative (walk-value s w) (a .worth) (walk-value-is-a-value (a .to) v w k) (worths a i)
+
+  -- by way of t, what is reached on both legs, joined, is reached
+  pub reached-by-way :
+      (u t v x y : ℕ) → Value s x → Value s y → Reached s arcs u t x → Reached s arcs t v y → Reached s arcs u v (s .join x y)
+  reached-by-way u t v x y vx vy (inl e) r = inl (ap (λ z. s .join z y) e ∙ laws .none-stays-none y vy)
+  reached-by-way u t v x y vx vy (inr q) (inl e) = inl (ap (λ z. s .join x z) e ∙ none-stays-none-behind s laws x vx)
+  reached-by-way u t v x y vx vy (inr (p, h, e)) (inr (q, k, f)) =
+      inr (p ++ q, walks-join arcs u t v p q h k,
+        value-of-walks-joined u t v p q h k ∙ ap (λ z. s .join z (walk-value s q)) e ∙ ap (λ z. s .join x z) f)
+
+  pub reached-backwards :
+      ((a : Arc) → In a arcs → In (turned a) arcs) → (u v x : ℕ) → Reached s arcs u v x → Reached s arcs v u x
+  reached-backwards turn u v x (inl e) = inl e
+  reached-backwards turn u v x (inr (w, h, e)) =
+      inr (backwards w, walk-backwards arcs turn u v w h, value-backwards turn u v w h ∙ e)
