@@ -6,3 +6,5 @@ pub mod FewArcs
 pub mod Steps
 pub mod BestWithin
 pub mod AllWalks
+pub mod NetworkArcs
+pub mod WellDefined
