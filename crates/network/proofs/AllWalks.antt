@@ -1,17 +1,30 @@
 -- With as many arcs as few-arcs-suffice asks for, `best-within` is the best over all walks, and a distance. Assumes nothing.
 use mathlib.Core.Path.{_≡_, refl, sym, subst}
 use mathlib.Core.List.{List, []}
-use mathlib.Core.Logic.{inl, inr}
+use mathlib.Core.Logic.{inl, inr, ⊎-elim}
 use Prim.Native.Nat.{ℕ, suc, _≤_}
 use native.Mathlib.Omega.{arith}
 use lib.ListN.{length}
 use Rattle.measure.specs.Scale.{Scale, Value, Laws, NoWorse}
 use Rattle.network.specs.Lists.{In}
-use Rattle.network.specs.Walks.{Arc, Walk, walk-value, best-within}
+use Rattle.network.specs.Walks.{Arc, Walk, walk-value, Best, best-within}
 use Rattle.network.proofs.Walks.{turned, Reached, walk-value-is-a-value, reached-by-way, reached-backwards}
 use Rattle.network.proofs.FewArcs.{few-arcs-suffice}
 use Rattle.network.proofs.BestWithin.{within-is-a-value, within-is-reached, within-is-best}
 use Rattle.network.proofs.Distance.{Distance, Walk-distance}
+
+-- For a distance over walks.
+module _ (s : Scale) (arcs : List Arc) (d : ℕ → ℕ → ℕ) (walks : Walk-distance s arcs d) where
+  pub none-where-no-walk : (u v : ℕ) → ((w : List Arc) → Walk arcs u v w → ⊥) → d u v ≡ s .none
+  none-where-no-walk u v h = ⊎-elim (λ e. e) (λ q. absurd (h (q .0) (q .1))) (walks .reached u v)
+
+  -- it is the best value, if it is none only where there is no walk
+  pub distance-is-best :
+      ((u v : ℕ) → d u v ≡ s .none → (w : List Arc) → Walk arcs u v w → ⊥) → (u v : ℕ) → Best s arcs u v (d u v)
+  distance-is-best h u v =
+      ⊎-elim (λ e. inr ((λ y q. h u v e (q .0) (q .1)), e))
+      (λ q. inl (q, λ y r. subst (λ z. NoWorse s (d u v) z) (r .2) (walks .no-walk-is-better u v (r .0) (r .1))))
+      (walks .reached u v)
 
 module _ (s : Scale) (laws : Laws s) (arcs : List Arc) (worths : (a : Arc) → In a arcs → Value s (a .worth))
     (all : List ℕ) (ends : (a : Arc) → In a arcs → In (a .from) all × In (a .to) all) (k : ℕ) (enough : length all ≤ suc k) where

@@ -5,7 +5,7 @@ use mathlib.Core.Logic.{_⊎_, inl, inr}
 use Prim.Native.Nat.{ℕ}
 use Rattle.measure.specs.Scale.{Scale, Value, Laws}
 use Rattle.network.specs.Lists.{In}
-use Rattle.network.specs.Walks.{Arc, arc, Walk, walk-value, Walked}
+use Rattle.network.specs.Walks.{Arc, arc, Walk, walk-value, Walked, Best}
 use Rattle.network.proofs.Order.{start-changes-nothing-behind, none-stays-none-behind}
 
 -- an arc the other way, with the same value
@@ -86,3 +86,13 @@ module _ (s : Scale) (laws : Laws s) (arcs : List Arc) (worths : (a : Arc) → I
   reached-backwards turn u v x (inl e) = inl e
   reached-backwards turn u v x (inr (w, h, e)) =
       inr (backwards w, walk-backwards arcs turn u v w h, value-backwards turn u v w h ∙ e)
+
+  pub walked-is-a-value : (u v x : ℕ) → Walked s arcs u v x → Value s x
+  walked-is-a-value u v x (w, h, e) = subst (Value s) e (walk-value-is-a-value u v w h)
+
+  pub one-is-best : (u v x y : ℕ) → Best s arcs u v x → Best s arcs u v y → x ≡ y
+  one-is-best u v x y (inl (p, h)) (inl (q, k)) =
+      laws .no-worse-both-ways-is-equal x y (walked-is-a-value u v x p) (walked-is-a-value u v y q) (h y q) (k x p)
+  one-is-best u v x y (inl (p, h)) (inr (k, f)) = absurd (k x p)
+  one-is-best u v x y (inr (h, e)) (inl (q, k)) = absurd (h y q)
+  one-is-best u v x y (inr (h, e)) (inr (k, f)) = e ∙ sym f

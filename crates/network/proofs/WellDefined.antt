@@ -1,20 +1,19 @@
 -- Best values of a network are well defined, and a distance. Assumes nothing.
-use mathlib.Core.Path.{_≡_, sym, _∙_, subst}
+use mathlib.Core.Path.{_≡_, subst}
 use mathlib.Core.List.{List, map}
-use mathlib.Core.Logic.{inl, inr}
 use Prim.Native.Nat.{ℕ, suc, _-_, _≤_}
 use native.Mathlib.Omega.{arith}
 use lib.ListN.{length, length-map}
-use Rattle.measure.specs.Scale.{Scale, Value, Laws, NoWorse}
+use Rattle.measure.specs.Scale.{Scale, Laws, NoWorse}
 use Rattle.network.specs.Lists.{count-up}
-use Rattle.network.specs.Walks.{Arc, Walk, walk-value, Walked, Best}
+use Rattle.network.specs.Walks.{Arc, Walk, walk-value, Best}
 use Rattle.network.specs.Networks.{Network, arcs, best}
 use Rattle.network.specs.Theorems.{Allowed, No-walk, Best-is-well-defined}
 use Rattle.network.proofs.Order.{none-alone-is-as-bad}
 use Rattle.network.proofs.Lists.{length-count-up}
-use Rattle.network.proofs.Walks.{Reached, walk-value-is-a-value}
+use Rattle.network.proofs.Walks.{walk-value-is-a-value, one-is-best}
 use Rattle.network.proofs.FewArcs.{few-arcs-suffice}
-use Rattle.network.proofs.AllWalks.{best-within-distance, best-within-walk-distance}
+use Rattle.network.proofs.AllWalks.{none-where-no-walk, distance-is-best, best-within-distance, best-within-walk-distance}
 use Rattle.network.proofs.NetworkArcs.{arcs-turn, arc-worths-are-values, arc-ends-are-counted, walk-is-lawful}
 use Rattle.network.proofs.Distance.{Distance, Walk-distance}
 
@@ -43,31 +42,14 @@ module _ (s : Scale) (laws : Laws s) (net : Network) (allowed : Allowed s net) w
       (none-alone-is-as-bad s laws (walk-value s (q .0)) (walk-value-is-a-value s laws (arcs net) worths u v (q .0) (q .1))
        (subst (λ x. NoWorse s x (walk-value s (q .0))) e (best-walks .no-walk-is-better u v (q .0) (q .1))))
 
-  none-where-no-walk : (u v : ℕ) → No-walk net u v → Reached s (arcs net) u v (best s net u v) → best s net u v ≡ s .none
-  none-where-no-walk u v h (inl e) = e
-  none-where-no-walk u v h (inr (w, k, e)) = absurd (h w k)
-
-  reached-is-best : (u v : ℕ) → Reached s (arcs net) u v (best s net u v) → Best s (arcs net) u v (best s net u v)
-  reached-is-best u v (inl e) = inr ((λ y q. no-walk-where-none u v e (q .0) (q .1)), e)
-  reached-is-best u v (inr q) =
-      inl (q, λ y r. subst (λ z. NoWorse s (best s net u v) z) (r .2) (best-walks .no-walk-is-better u v (r .0) (r .1)))
-
-  walked-is-a-value : (u v x : ℕ) → Walked s (arcs net) u v x → Value s x
-  walked-is-a-value u v x (w, h, e) =
-      subst (Value s) e (walk-value-is-a-value s laws (arcs net) (arc-worths-are-values s laws net (allowed .sound)) u v w h)
-
-  one-is-best : (u v x y : ℕ) → Best s (arcs net) u v x → Best s (arcs net) u v y → x ≡ y
-  one-is-best u v x y (inl (p, h)) (inl (q, k)) =
-      laws .no-worse-both-ways-is-equal x y (walked-is-a-value u v x p) (walked-is-a-value u v y q) (h y q) (k x p)
-  one-is-best u v x y (inl (p, h)) (inr (k, f)) = absurd (k x p)
-  one-is-best u v x y (inr (h, e)) (inl (q, k)) = absurd (h y q)
-  one-is-best u v x y (inr (h, e)) (inr (k, f)) = e ∙ sym f
+  pub computed-is-best : (u v : ℕ) → Best s (arcs net) u v (best s net u v)
+  computed-is-best = distance-is-best s (arcs net) (best s net) best-walks no-walk-where-none
 
   pub best-is-well-defined : Best-is-well-defined s net
   best-is-well-defined = record {
-    computed-is-best = λ u v. reached-is-best u v (best-walks .reached u v);
-    only-one-is-best = one-is-best;
-    none-without-a-walk = λ u v h. none-where-no-walk u v h (best-walks .reached u v);
+    computed-is-best = computed-is-best;
+    only-one-is-best = one-is-best s laws (arcs net) (arc-worths-are-values s laws net (allowed .sound));
+    none-without-a-walk = none-where-no-walk s (arcs net) (best s net) best-walks;
     no-walk-at-none = no-walk-where-none;
     best-is-a-value = best-distance .is-a-value;
     no-way-round-is-better = best-distance .triangle;
