@@ -1,12 +1,12 @@
 -- Best values of a network are well defined, and a distance. Assumes nothing.
 use mathlib.Core.Path.{_≡_, subst}
-use mathlib.Core.List.{List, map}
+use mathlib.Core.List.{map}
 use Prim.Native.Nat.{ℕ, suc, _-_, _≤_}
 use native.Mathlib.Omega.{arith}
 use lib.ListN.{length, length-map}
 use Rattle.measure.specs.Scale.{Scale, Laws, NoWorse}
 use Rattle.network.specs.Lists.{count-up}
-use Rattle.network.specs.Walks.{Arc, Walk, walk-value, Best}
+use Rattle.network.specs.Walks.{walk-value, Best}
 use Rattle.network.specs.Networks.{Network, arcs, best}
 use Rattle.network.specs.Theorems.{Allowed, No-walk, Best-is-well-defined}
 use Rattle.network.proofs.Order.{none-alone-is-as-bad}
