@@ -57,15 +57,15 @@ module _ (s : Scale) (laws : Laws s) (arcs : List Arc) (worths : (a : Arc) → I
       let reached = within-is-reached s laws arcs worths k in
       within-is-no-worse-than-what-is-reached u v (s .join (best-within s arcs k u t) (best-within s arcs k t v))
       (reached-by-way s laws arcs worths u t v (best-within s arcs k u t) (best-within s arcs k t v)
-       (value u t) (value t v) (reached u t) (reached t v))
+      (value u t) (value t v) (reached u t) (reached t v))
 
   pub within-is-the-same-both-ways :
       ((a : Arc) → In a arcs → In (turned a) arcs) → (u v : ℕ) → best-within s arcs k u v ≡ best-within s arcs k v u
   within-is-the-same-both-ways turn u v =
       let value = within-is-a-value s laws arcs worths k in
       let one-way : (x y : ℕ) → NoWorse s (best-within s arcs k x y) (best-within s arcs k y x) =
-          λ x y. within-is-no-worse-than-what-is-reached x y (best-within s arcs k y x)
-            (reached-backwards s laws arcs worths turn y x (best-within s arcs k y x) (within-is-reached s laws arcs worths k y x)) in
+      λ x y. within-is-no-worse-than-what-is-reached x y (best-within s arcs k y x)
+      (reached-backwards s laws arcs worths turn y x (best-within s arcs k y x) (within-is-reached s laws arcs worths k y x)) in
       laws .no-worse-both-ways-is-equal (best-within s arcs k u v) (best-within s arcs k v u) (value u v) (value v u)
       (one-way u v) (one-way v u)
 

@@ -1,5 +1,5 @@
 -- What `best-within` computes: the best over walks of at most k arcs. Assumes nothing.
-use mathlib.Core.Path.{refl, sym, ap, _∙_, subst}
+use mathlib.Core.Path.{refl, sym, ap, _∙_, subst, subst₂}
 use mathlib.Core.Bool.{cond}
 use mathlib.Core.List.{List, [], _∷_}
 use mathlib.Core.Logic.{inl, inr, ⊎-elim}
@@ -40,17 +40,22 @@ module _ (s : Scale) (laws : Laws s) (arcs : List Arc) (worths : (a : Arc) → I
       step-is-no-worse s laws u (λ t. best-within s arcs k t v) (λ t. within-is-a-value k t v) arcs (resting s u v) worths
       (resting-is-a-value u v)
 
+  -- what an arc offers is reached, if what it is joined with is
+  pub offer-is-reached :
+      (v x : ℕ) (a : Arc) → In a arcs → Reached s arcs (a .to) v x → Reached s arcs (a .from) v (s .join (a .worth) x)
+  offer-is-reached v x a i (inl none) =
+      inl (ap (λ z. s .join (a .worth) z) none ∙ none-stays-none-behind s laws (a .worth) (worths a i))
+  offer-is-reached v x a i (inr (w, h, e)) = inr (a ∷ w, (i, refl, h), ap (λ z. s .join (a .worth) z) e)
+
   pub within-is-reached : (k u v : ℕ) → Reached s arcs u v (best-within s arcs k u v)
   within-is-reached zero u v = resting-is-reached u v
   within-is-reached (suc k) u v =
       let onward : ℕ → ℕ = λ t. best-within s arcs k t v in
+      let by-an-arc : (a : Arc) → In a arcs → Reached s arcs (a .from) v (s .join (a .worth) (onward (a .to))) =
+      λ a i. offer-is-reached v (onward (a .to)) a i (within-is-reached k (a .to) v) in
       ⊎-elim (λ e. subst (Reached s arcs u v) (sym e) (resting-is-reached u v))
-        (λ r. let a = r .0 in
-          ⊎-elim
-            (λ none. inl (r .3 ∙ ap (λ x. s .join (a .worth) x) none ∙ none-stays-none-behind s laws (a .worth) (worths a (r .1))))
-            (λ q. inr (a ∷ q .0, (r .1, r .2, q .1), ap (λ x. s .join (a .worth) x) (q .2) ∙ sym (r .3)))
-            (within-is-reached k (a .to) v))
-        (step-invents-nothing s laws u onward (λ t. within-is-a-value k t v) arcs (resting s u v))
+      (λ r. subst₂ (λ x y. Reached s arcs x v y) (r .2) (sym (r .3)) (by-an-arc (r .0) (r .1)))
+      (step-invents-nothing s laws u onward (λ t. within-is-a-value k t v) arcs (resting s u v))
 
   -- no walk of at most k arcs is better
   pub within-is-best : (k u v : ℕ) (w : List Arc) → length w ≤ k → Walk arcs u v w → NoWorse s (best-within s arcs k u v) (walk-value s w)
@@ -67,4 +72,4 @@ module _ (s : Scale) (laws : Laws s) (arcs : List Arc) (worths : (a : Arc) → I
       (laws .join-is-a-value (a .worth) (walk-value s w) (worths a i) vw)
       (step-takes-every-offer s laws u onward (λ t. within-is-a-value k t v) arcs (resting s u v) worths (resting-is-a-value u v) a i e)
       (join-keeps-the-order-behind s laws (onward (a .to)) (walk-value s w) (a .worth) vo vw (worths a i)
-       (within-is-best k (a .to) v w (omega arith) h))
+      (within-is-best k (a .to) v w (omega arith) h))

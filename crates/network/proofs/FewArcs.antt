@@ -1,5 +1,5 @@
 -- Few arcs suffice: for every walk there is one no worse with fewer arcs than there are junctions. Assumes nothing.
-use mathlib.Core.Path.{subst}
+use mathlib.Core.Path.{_≡_, subst}
 use mathlib.Core.List.{List, [], _∷_}
 use mathlib.Core.Logic.{_⊎_, inl, inr, ⊎-elim}
 use Prim.Native.Nat.{ℕ, zero, suc, _-_, _≤_}
@@ -44,23 +44,28 @@ module _ (s : Scale) (laws : Laws s) (arcs : List Arc) (worths : (a : Arc) → I
       (laws .join-is-a-value (a .worth) (walk-value s w) (worths a i) vw) h
       (joining-is-never-better s laws (a .worth) (walk-value s w) (worths a i) vw)
 
-  -- a walk never comes to u, or what follows its last visit there is as wanted
+  -- one arc in front of a walk, as told for `last-visit`
+  one-arc-before :
+      (all : List ℕ) (u v : ℕ) (a : Arc) (w : List Arc) → In a arcs → Walk arcs (a .to) v w → In (a .to) all
+      → Leads-into (without u all) w ⊎ Leaves-for-good s arcs all u v w → (a .to ≡ u) ⊎ (a .to ≡ u → ⊥)
+      → Leads-into (without u all) (a ∷ w) ⊎ Leaves-for-good s arcs all u v (a ∷ w)
+  one-arc-before all u v a w i k h (inl m) (inl back) =
+      let vw = walk-value-is-a-value s laws arcs worths (a .to) v w k in
+      let never-helps = first-arc-never-helps a w w i vw vw (no-worse-than-itself s laws (walk-value s w) vw) in
+      inr (w, subst (λ y. Walk arcs y v w) back k, m, never-helps)
+  one-arc-before all u v a w i k h (inl m) (inr ne) = inl (in-without u (a .to) all ne h, m)
+  one-arc-before all u v a w i k h (inr (x, p, m, b)) c =
+      let vx = walk-value-is-a-value s laws arcs worths u v x p in
+      let vw = walk-value-is-a-value s laws arcs worths (a .to) v w k in
+      inr (x, p, m, first-arc-never-helps a x w i vx vw b)
+
+  -- a walk never comes to u, or what follows its last visit there leaves u for good
   last-visit :
       (all : List ℕ) (u t v : ℕ) (w : List Arc) → Walk arcs t v w → Leads-into all w
       → Leads-into (without u all) w ⊎ Leaves-for-good s arcs all u v w
   last-visit all u t v [] e l = inl tt
   last-visit all u t v (a ∷ w) (i, e, k) (h, l) =
-      let vw = walk-value-is-a-value s laws arcs worths (a .to) v w k in
-      let here : Leads-into (without u all) w → Leads-into (without u all) (a ∷ w) ⊎ Leaves-for-good s arcs all u v (a ∷ w) =
-          λ m. ⊎-elim
-            (λ back. inr (w, subst (λ y. Walk arcs y v w) back k, m,
-              first-arc-never-helps a w w i vw vw (no-worse-than-itself s laws (walk-value s w) vw)))
-            (λ ne. inl (in-without u (a .to) all ne h, m))
-            (cases-eq (a .to) u) in
-      ⊎-elim here
-        (λ r. inr (r .0, r .1, r .2,
-          first-arc-never-helps a (r .0) w i (walk-value-is-a-value s laws arcs worths u v (r .0) (r .1)) vw (r .3)))
-        (last-visit all u (a .to) v w k l)
+      one-arc-before all u v a w i k h (last-visit all u (a .to) v w k l) (cases-eq (a .to) u)
 
   -- a loop never helps: a walk from u may leave u for good
   pub loop-never-helps :
@@ -78,13 +83,15 @@ module _ (s : Scale) (laws : Laws s) (arcs : List Arc) (worths : (a : Arc) → I
       let shorter = without-is-shorter (a .to) all h in
       let r = loop-never-helps all (a .to) v w k l in
       let q = one-arc-each n (without (a .to) all) (a .to) v (r .0) (omega arith) (r .1) (r .2) in
-      let value = walk-value-is-a-value s laws arcs worths (a .to) v in
-      (a ∷ q .0, (i, e, q .1),
-       join-keeps-the-order-behind s laws (walk-value s (q .0)) (walk-value s w) (a .worth)
-       (value (q .0) (q .1)) (value w k) (worths a i)
-       (laws .order-is-transitive (walk-value s (q .0)) (walk-value s (r .0)) (walk-value s w)
-        (value (q .0) (q .1)) (value (r .0) (r .1)) (value w k) (q .2) (r .3)),
-       omega arith)
+      let value = walk-value-is-a-value s laws arcs worths (a .to) v in (
+        a ∷ q .0,
+        (i, e, q .1),
+        join-keeps-the-order-behind s laws (walk-value s (q .0)) (walk-value s w) (a .worth)
+            (value (q .0) (q .1)) (value w k) (worths a i)
+            (laws .order-is-transitive (walk-value s (q .0)) (walk-value s (r .0)) (walk-value s w)
+            (value (q .0) (q .1)) (value (r .0) (r .1)) (value w k) (q .2) (r .3)),
+        omega arith,
+      )
 
   -- one arc fewer than junctions is enough, since nothing leads back to the first junction
   pub few-arcs-suffice :
@@ -96,8 +103,10 @@ module _ (s : Scale) (laws : Laws s) (arcs : List Arc) (worths : (a : Arc) → I
       let r = loop-never-helps all u v (a ∷ w) whole (leads-into arcs all (λ b j. ends b j .1) u v (a ∷ w) whole) in
       let shorter = without-is-shorter u all (subst (λ x. In x all) e (ends a i .0)) in
       let q = one-arc-each (length all - 1) (without u all) u v (r .0) (omega arith) (r .1) (r .2) in
-      let value = walk-value-is-a-value s laws arcs worths u v in
-      (q .0, q .1,
-       laws .order-is-transitive (walk-value s (q .0)) (walk-value s (r .0)) (walk-value s (a ∷ w))
-       (value (q .0) (q .1)) (value (r .0) (r .1)) (value (a ∷ w) whole) (q .2) (r .3),
-       q .3)
+      let value = walk-value-is-a-value s laws arcs worths u v in (
+        q .0,
+        q .1,
+        laws .order-is-transitive (walk-value s (q .0)) (walk-value s (r .0)) (walk-value s (a ∷ w))
+            (value (q .0) (q .1)) (value (r .0) (r .1)) (value (a ∷ w) whole) (q .2) (r .3),
+        q .3,
+      )

@@ -47,9 +47,10 @@ module _ {A : Type 0} where
 
   -- what is kept was in the list, and passes the test
   pub kept-by-in : (p : A → Bool) (x : A) (xs : List A) → In x (kept-by p xs) → In x xs × (p x ≡ true)
-  kept-by-in p x xs i =
-      (all-in (λ y. In y xs) x (kept-by p xs) (all-kept-by p (λ y. In y xs) xs (all-from-in (λ y. In y xs) xs (λ y j. j))) i,
-       all-in (λ y. p y ≡ true) x (kept-by p xs) (kept-by-passes p xs) i)
+  kept-by-in p x xs i = (
+    all-in (λ y. In y xs) x (kept-by p xs) (all-kept-by p (λ y. In y xs) xs (all-from-in (λ y. In y xs) xs (λ y j. j))) i,
+    all-in (λ y. p y ≡ true) x (kept-by p xs) (kept-by-passes p xs) i,
+  )
 
   pub distinct-kept-by : (p : A → Bool) (xs : List A) → Distinct xs → Distinct (kept-by p xs)
   distinct-kept-by p [] d = tt

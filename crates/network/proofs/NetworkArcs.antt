@@ -28,7 +28,7 @@ pub arc-comes-of-a-road : (a : Arc) (roads : List Road) → In a (arcs-of roads)
 arc-comes-of-a-road a [] i = absurd i
 arc-comes-of-a-road a (r ∷ roads) i =
     let later : In a (arcs-of roads) → Comes-of a (r ∷ roads) =
-        λ j. let q = arc-comes-of-a-road a roads j in (q .0, inr (q .1), q .2, q .3) in
+    λ j. let q = arc-comes-of-a-road a roads j in (q .0, inr (q .1), q .2, q .3) in
     cond-both (r .is-open) (there r ∷ and-back r ∷ arcs-of roads) (arcs-of roads) (λ l. In a l → Comes-of a (r ∷ roads))
     (λ t. ⊎-elim (λ e. (r, inl refl, t, inl e)) (⊎-elim (λ e. (r, inl refl, t, inr e)) later)) (λ t. later) i
 

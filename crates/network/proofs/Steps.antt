@@ -9,8 +9,13 @@ use Rattle.std.proofs.shelf.Tests.{cond-both, eq-eqb, eqb-true}
 use Rattle.measure.specs.Scale.{Scale, Value, Laws, NoWorse}
 use Rattle.network.specs.Lists.{In}
 use Rattle.network.specs.Walks.{Arc, pick, best-step}
-use Rattle.network.proofs.Order.{no-worse-than-itself, pick-is-one, pick-is-a-value, pick-is-no-worse-than-the-first,
-  pick-is-no-worse-than-the-second}
+use Rattle.network.proofs.Order.{
+  no-worse-than-itself,
+  pick-is-one,
+  pick-is-a-value,
+  pick-is-no-worse-than-the-first,
+  pick-is-no-worse-than-the-second,
+}
 
 -- the result of `best-step` is x, or what an arc out of u offers
 abbrev pub Stepped : Scale → List Arc → ℕ → (ℕ → ℕ) → ℕ → ℕ → Type 0
@@ -63,10 +68,10 @@ module _ (s : Scale) (laws : Laws s) (u : ℕ) (onward : ℕ → ℕ) (onwards :
       let v = after-is-a-value a x va vx in
       let offer = s .join (a .worth) (onward (a .to)) in
       let taken : NoWorse s (after a x) offer =
-          rw (eq-eqb (a .from) u e) (pick-is-no-worse-than-the-second s laws x offer vx (offer-is-a-value a va)) in
+      rw (eq-eqb (a .from) u e) (pick-is-no-worse-than-the-second s laws x offer vx (offer-is-a-value a va)) in
       subst (λ c. NoWorse s (best-step s arcs u onward (after c x)) offer) same
       (laws .order-is-transitive (best-step s arcs u onward (after a x)) (after a x) offer
-       (step-is-a-value arcs (after a x) rest v) v (offer-is-a-value a va) (step-is-no-worse arcs (after a x) rest v) taken)
+      (step-is-a-value arcs (after a x) rest v) v (offer-is-a-value a va) (step-is-no-worse arcs (after a x) rest v) taken)
   step-takes-every-offer (b ∷ arcs) x worths vx a (inr i) e =
       step-takes-every-offer arcs (after b x) (λ c j. worths c (inr j)) (after-is-a-value b x (worths b (inl refl)) vx) a i e
 
@@ -76,7 +81,7 @@ module _ (s : Scale) (laws : Laws s) (u : ℕ) (onward : ℕ → ℕ) (onwards :
       let y = best-step s arcs u onward (after a x) in
       let offer = s .join (a .worth) (onward (a .to)) in
       let kept : y ≡ after a x → Stepped s (a ∷ arcs) u onward x y =
-          λ e. cond-both (eqb (a .from) u) (pick s x offer) x (λ z. y ≡ z → Stepped s (a ∷ arcs) u onward x y)
-            (λ t f. ⊎-elim (λ g. inl (f ∙ g)) (λ g. inr (a, inl refl, eqb-true (a .from) u t, f ∙ g)) (pick-is-one s laws x offer))
-            (λ t f. inl f) e in
+      λ e. cond-both (eqb (a .from) u) (pick s x offer) x (λ z. y ≡ z → Stepped s (a ∷ arcs) u onward x y)
+      (λ t f. ⊎-elim (λ g. inl (f ∙ g)) (λ g. inr (a, inl refl, eqb-true (a .from) u t, f ∙ g)) (pick-is-one s laws x offer))
+      (λ t f. inl f) e in
       ⊎-elim kept (λ r. inr (r .0, inr (r .1), r .2, r .3)) (step-invents-nothing arcs (after a x))

@@ -57,7 +57,7 @@ module _ (s : Scale) (laws : Laws s) (arcs : List Arc) (worths : (a : Arc) → I
   value-of-walks-joined u t v (a ∷ p) q (i, e, h) k =
       ap (λ x. s .join (a .worth) x) (value-of-walks-joined (a .to) t v p q h k)
       ∙ sym (laws .join-is-associative (a .worth) (walk-value s p) (walk-value s q)
-        (worths a i) (walk-value-is-a-value (a .to) t p h) (walk-value-is-a-value t v q k))
+      (worths a i) (walk-value-is-a-value (a .to) t p h) (walk-value-is-a-value t v q k))
 
   pub value-of-one-arc : (a : Arc) → In a arcs → walk-value s (a ∷ []) ≡ a .worth
   value-of-one-arc a i = start-changes-nothing-behind s laws (a .worth) (worths a i)
@@ -78,8 +78,11 @@ module _ (s : Scale) (laws : Laws s) (arcs : List Arc) (worths : (a : Arc) → I
   reached-by-way u t v x y vx vy (inl e) r = inl (ap (λ z. s .join z y) e ∙ laws .none-stays-none y vy)
   reached-by-way u t v x y vx vy (inr q) (inl e) = inl (ap (λ z. s .join x z) e ∙ none-stays-none-behind s laws x vx)
   reached-by-way u t v x y vx vy (inr (p, h, e)) (inr (q, k, f)) =
-      inr (p ++ q, walks-join arcs u t v p q h k,
-        value-of-walks-joined u t v p q h k ∙ ap (λ z. s .join z (walk-value s q)) e ∙ ap (λ z. s .join x z) f)
+      inr (
+        p ++ q,
+        walks-join arcs u t v p q h k,
+        value-of-walks-joined u t v p q h k ∙ ap (λ z. s .join z (walk-value s q)) e ∙ ap (λ z. s .join x z) f,
+      )
 
   pub reached-backwards :
       ((a : Arc) → In a arcs → In (turned a) arcs) → (u v x : ℕ) → Reached s arcs u v x → Reached s arcs v u x

@@ -40,7 +40,7 @@ module _ (s : Scale) (laws : Laws s) (net : Network) (allowed : Allowed s net) w
       laws .few-roads-are-not-none (map (λ a. a .worth) (q .0)) (walk-is-lawful s net (allowed .sound) u v (q .0) (q .1))
       (simp length-map few)
       (none-alone-is-as-bad s laws (walk-value s (q .0)) (walk-value-is-a-value s laws (arcs net) worths u v (q .0) (q .1))
-       (subst (λ x. NoWorse s x (walk-value s (q .0))) e (best-walks .no-walk-is-better u v (q .0) (q .1))))
+      (subst (λ x. NoWorse s x (walk-value s (q .0))) e (best-walks .no-walk-is-better u v (q .0) (q .1))))
 
   pub computed-is-best : (u v : ℕ) → Best s (arcs net) u v (best s net u v)
   computed-is-best = distance-is-best s (arcs net) (best s net) best-walks no-walk-where-none
