@@ -1,3 +1,6 @@
 pub mod Distance
 pub mod DistrictLists
 pub mod DistrictWalks
+pub mod DistrictArcs
+pub mod Shortcuts
+pub mod Crossing
