@@ -4,3 +4,5 @@ pub mod DistrictWalks
 pub mod DistrictArcs
 pub mod Shortcuts
 pub mod Crossing
+pub mod DistrictBest
+pub mod Offers
