@@ -5,7 +5,7 @@ use mathlib.Core.List.{List, [], _∷_, _++_}
 use mathlib.Core.Logic.{⊎-elim}
 use Prim.Native.Nat.{ℕ}
 use Rattle.std.proofs.shelf.Tests.{cases-eq}
-use Rattle.measure.specs.Scale.{Scale, Value, Laws, NoWorse}
+use Rattle.measure.specs.Scale.{Scale, Laws, NoWorse}
 use Rattle.network.specs.Lists.{In}
 use Rattle.network.specs.Walks.{Arc, Walk, walk-value}
 use Rattle.network.specs.Networks.{Network, Sound, district, arcs, best, is-border, Border-order}

@@ -12,8 +12,8 @@ use Rattle.measure.specs.Scale.{Scale, Value, Laws, Lawful}
 use Rattle.network.specs.Lists.{In, count-up}
 use Rattle.network.specs.Walks.{Arc, arc}
 use Rattle.network.specs.Networks.{Road, Network, Junction, Sound, Sound-road, district, arcs-of, arcs, crosses, at-a-crossing, is-border, borders}
-use Rattle.network.specs.Rows.{runs-inside, inner-arcs, borders-of}
-use Rattle.network.proofs.DistrictLists.{kept-is-in, in-is-kept, in-count-up}
+use Rattle.network.specs.Rows.{runs-inside, inner-arcs, borders-of, members}
+use Rattle.network.proofs.DistrictLists.{kept-is-in, in-is-kept, in-count-up, counted-is-between}
 
 -- what the soundness of a network's roads says of its arcs
 pub record Sound-arc (s : Scale) (net : Network) (a : Arc) : Type 0 where
@@ -80,7 +80,8 @@ crossing-has-an-end net [] v t = absurd (both-ways false refl t)
 crossing-has-an-end net (b ∷ rest) v t =
     ⊎-elim
     (λ k. let c = and-parts (crosses net b) (eqb (b .from) v || eqb (b .to) v) k in
-      (b, inl refl, c .0, ⊎-elim (λ f. inl (eqb-true (b .from) v f)) (λ f. inr (eqb-true (b .to) v f)) (or-cases (eqb (b .from) v) (eqb (b .to) v) (c .1))))
+      (b, inl refl, c .0, ⊎-elim (λ f. inl (eqb-true (b .from) v f)) (λ f. inr (eqb-true (b .to) v f))
+        (or-cases (eqb (b .from) v) (eqb (b .to) v) (c .1))))
     (λ k. let r = crossing-has-an-end net rest v k in (r .0, inr (r .1), r .2, r .3))
     (or-cases (crosses net b && (eqb (b .from) v || eqb (b .to) v)) (at-a-crossing net rest v) t)
 
@@ -135,3 +136,15 @@ module _ (s : Scale) (laws : Laws s) (net : Network) (sound : Sound s net) where
   listed-is-border k v h =
       let i = kept-is-in (λ x. eqb (district net x) k) v (borders net) h in
       (kept-is-in (is-border net) v (count-up 1 (net .junctions)) (i .0) .1, eqb-true (district net v) k (i .1))
+
+-- the junctions of a district
+pub member-is-listed : (net : Network) (k v : ℕ) → Junction net v → district net v ≡ k → In v (members net k)
+member-is-listed net k v j e =
+    in-is-kept (λ x. eqb (district net x) k) v (count-up 1 (net .junctions))
+    (in-count-up v 1 (net .junctions) (j .0) (omega arith)) (eq-eqb (district net v) k e)
+
+pub listed-is-member : (net : Network) (k v : ℕ) → In v (members net k) → Junction net v × (district net v ≡ k)
+listed-is-member net k v h =
+    let i = kept-is-in (λ x. eqb (district net x) k) v (count-up 1 (net .junctions)) h in
+    let between = counted-is-between v 1 (net .junctions) (i .0) in
+    ((between .0, omega arith), eqb-true (district net v) k (i .1))

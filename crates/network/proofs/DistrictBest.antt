@@ -8,12 +8,14 @@ use Rattle.std.proofs.shelf.Tests.{cases-eq}
 use Rattle.measure.specs.Scale.{Scale, Value, Laws, NoWorse}
 use Rattle.network.specs.Lists.{In}
 use Rattle.network.specs.Walks.{Arc, Walk, walk-value, Walked, Best}
-use Rattle.network.specs.Networks.{Network, Sound, district, arcs, best, is-border}
+use Rattle.network.specs.Networks.{Network, Junction, Sound, district, arcs, best, is-border}
 use Rattle.network.specs.Rows.{district-arcs, district-best}
 use Rattle.network.proofs.Distance.{Distance, Walk-distance}
-use Rattle.network.proofs.DistrictWalks.{walk-goes-on, itself-is-no-worse, equal-is-no-worse, join-keeps-on-the-right, join-keeps-both, less-is-no-worse, walk-has-a-value, value-of-both, value-of-one}
+use Rattle.network.proofs.DistrictWalks.{itself-is-no-worse, join-keeps-on-the-right, join-keeps-both, less-is-no-worse}
+use Rattle.network.proofs.DistrictWalks.{walk-goes-on, walk-has-a-value, value-of-both, value-of-one}
 use Rattle.network.proofs.DistrictArcs.{crossing-leaves-a-border, crossing-enters-a-border, arc-has-a-value, inner-is-in, in-is-inner}
-use Rattle.network.proofs.Shortcuts.{shortcut, shortcut-is-one, one-is-a-shortcut, inner-is-in-district, shortcut-is-in-district, district-arc-cases, district-arc-has-a-value}
+use Rattle.network.proofs.Shortcuts.{shortcut, shortcut-is-one, one-is-a-shortcut}
+use Rattle.network.proofs.Shortcuts.{inner-is-in-district, shortcut-is-in-district, district-arc-cases, district-arc-has-a-value}
 
 -- a walk in the network of district k from x to v whose value is no worse than y
 abbrev pub As-good : Scale → Network → ℕ → ℕ → ℕ → ℕ → Type 0
@@ -171,3 +173,10 @@ module _ (s : Scale) (laws : Laws s) (net : Network) (sound : Sound s net)
           (λ e. subst (NoWorse s (best s net u v)) (sym e) (laws .none-is-worst (best s net u v) vb))
           (λ t. subst (NoWorse s (best s net u v)) (t .2) (district-walk-is-no-better u v (t .0) (t .1)))
           (district-walks .reached u v))
+
+  -- as the statement of the theorem has it
+  pub district-best-is-best : Distance s (district-best s net k) → Walk-distance s (district-arcs s net k) (district-best s net k)
+      → (u v : ℕ) → Junction net u → Junction net v → district net u ≡ k → district net v ≡ k
+      → Best s (district-arcs s net k) u v (best s net u v) × (district-best s net k u v ≡ best s net u v)
+  district-best-is-best district-dist district-walks u v u-junction v-junction u-is-here v-is-here =
+      (best-is-best-in-the-district u v u-is-here v-is-here, district-best-is-the-best u v u-is-here v-is-here district-dist district-walks)

@@ -1,6 +1,6 @@
 -- What stands in lists joined, in lists filtered, and in lists that count up. Assumes nothing.
-use mathlib.Core.Path.{_≡_, refl, sym, ap, _∙_, subst}
-use mathlib.Core.Bool.{Bool, true, false, cond}
+use mathlib.Core.Path.{_≡_, sym, ap, _∙_, subst}
+use mathlib.Core.Bool.{Bool, true}
 use mathlib.Core.List.{List, [], _∷_, _++_}
 use mathlib.Core.Logic.{_⊎_, inl, inr, ⊎-elim}
 use Prim.Native.Nat.{ℕ, zero, suc, _+_, _≤_, _<_}
@@ -47,3 +47,8 @@ all-at P x (y ∷ ys) (p, a) (inr h) = all-at P x ys a h
 pub in-count-up : (v a n : ℕ) → a ≤ v → v < a + n → In v (count-up a n)
 in-count-up v a zero l h = let i : ⊥ = omega arith in absurd i
 in-count-up v a (suc n) l h = ⊎-elim (λ e. inl e) (λ d. inr (in-count-up v (suc a) n (omega arith) (omega arith))) (cases-eq v a)
+
+pub counted-is-between : (v a n : ℕ) → In v (count-up a n) → (a ≤ v) × (v < a + n)
+counted-is-between v a zero h = absurd h
+counted-is-between v a (suc n) (inl e) = (omega arith, omega arith)
+counted-is-between v a (suc n) (inr h) = let r = counted-is-between v (suc a) n h in (omega arith, omega arith)

@@ -1,6 +1,6 @@
 -- Which arcs are the shortcuts of a district, and what the arcs of a district's network are. Assumes nothing.
 use mathlib.Core.Path.{_≡_, refl, sym, ap, _∙_, subst}
-use mathlib.Core.Bool.{true, false, cond}
+use mathlib.Core.Bool.{true, cond}
 use mathlib.Core.List.{List, [], _∷_}
 use mathlib.Core.Logic.{_⊎_, inl, inr, ⊎-elim}
 use Prim.Native.Nat.{ℕ}
@@ -13,7 +13,8 @@ use Rattle.network.specs.Networks.{Network, Sound, district, arcs, best, is-bo
 use Rattle.network.specs.Rows.{borders-of, shortcuts-from, shortcuts-among, shortcuts, inner-arcs, district-arcs}
 use Rattle.network.proofs.Distance.{Distance}
 use Rattle.network.proofs.DistrictLists.{in-append-left, in-append-right, in-append-cases}
-use Rattle.network.proofs.DistrictArcs.{turned, arcs-run-both-ways, inner-is-in, in-is-inner, sound-arc, arc-has-a-value, border-is-a-junction, junction-is-counted, border-is-listed, listed-is-border}
+use Rattle.network.proofs.DistrictArcs.{turned, arcs-run-both-ways, inner-is-in, in-is-inner, sound-arc, arc-has-a-value}
+use Rattle.network.proofs.DistrictArcs.{border-is-a-junction, junction-is-counted, border-is-listed, listed-is-border}
 
 -- a shortcut leads from b to c: they are two, and one reaches the other
 abbrev pub Joins : Scale → Network → ℕ → ℕ → Type 0
