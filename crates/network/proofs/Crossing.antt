@@ -10,8 +10,10 @@ use Rattle.network.specs.Lists.{In}
 use Rattle.network.specs.Walks.{Arc, Walk, walk-value}
 use Rattle.network.specs.Networks.{Network, Sound, district, arcs, best, is-border, Border-order}
 use Rattle.network.proofs.Distance.{Distance, Walk-distance}
-use Rattle.network.proofs.DistrictWalks.{join-keeps-both, walk-has-a-value, value-of-both}
-use Rattle.network.proofs.DistrictArcs.{crossing-leaves-a-border, arc-has-a-value}
+use Rattle.network.proofs.Order.{join-keeps-the-order-twice}
+use Rattle.network.proofs.Walks.{walk-value-is-a-value, value-of-walks-joined}
+use Rattle.network.proofs.NetworkArcs.{arc-worths-are-values}
+use Rattle.network.proofs.DistrictArcs.{crossing-leaves-a-border}
 
 -- a border at which a walk is cut in two
 pub record Cut-at-a-border (net : Network) (u v : ℕ) (w : List Arc) : Type 0 where
@@ -29,16 +31,16 @@ walk-passes-a-border net u v [] e differ = absurd (differ (ap (district net) e))
 walk-passes-a-border net u v (a ∷ w) (i, e, h) differ =
     ⊎-elim
     (λ same.
-      let later = walk-passes-a-border net (a .to) v w h (λ f. differ (ap (district net) (sym e) ∙ same ∙ f)) in
-      record {
-        at = later .at;
-        is-a-border = later .is-a-border;
-        before = a ∷ later .before;
-        after = later .after;
-        walk-before = (i, e, later .walk-before);
-        walk-after = later .walk-after;
-        is-cut = ap (_∷_ a) (later .is-cut);
-      })
+    let later = walk-passes-a-border net (a .to) v w h (λ f. differ (ap (district net) (sym e) ∙ same ∙ f)) in
+    record {
+      at = later .at;
+      is-a-border = later .is-a-border;
+      before = a ∷ later .before;
+      after = later .after;
+      walk-before = (i, e, later .walk-before);
+      walk-after = later .walk-after;
+      is-cut = ap (_∷_ a) (later .is-cut);
+    })
     (λ leaves. record {
       at = u;
       is-a-border = subst (λ x. is-border net x ≡ true) e (crossing-leaves-a-border net a i leaves);
@@ -58,18 +60,20 @@ module _ (s : Scale) (laws : Laws s) (net : Network) (sound : Sound s net)
   best-passes-a-border u v reached differ =
       ⊎-elim (λ e. absurd (reached e))
       (λ r.
-        let cut = walk-passes-a-border net u v (r .0) (r .1) differ in
-        let valued = arc-has-a-value s laws net sound in
-        let value : walk-value s (r .0) ≡ s .join (walk-value s (cut .before)) (walk-value s (cut .after)) =
-              ap (walk-value s) (cut .is-cut)
-              ∙ value-of-both s laws (arcs net) valued u (cut .at) v (cut .before) (cut .after) (cut .walk-before) (cut .walk-after) in
-        (cut .at, cut .is-a-border,
-          subst (NoWorse s (s .join (best s net u (cut .at)) (best s net (cut .at) v))) (sym value ∙ r .2)
-          (join-keeps-both s laws (best s net u (cut .at)) (walk-value s (cut .before)) (best s net (cut .at) v) (walk-value s (cut .after))
-            (dist .is-a-value u (cut .at)) (walk-has-a-value s laws (arcs net) valued u (cut .at) (cut .before) (cut .walk-before))
-            (dist .is-a-value (cut .at) v) (walk-has-a-value s laws (arcs net) valued (cut .at) v (cut .after) (cut .walk-after))
+      let cut = walk-passes-a-border net u v (r .0) (r .1) differ in
+      let valued = arc-worths-are-values s laws net sound in
+      let value : walk-value s (r .0) ≡ s .join (walk-value s (cut .before)) (walk-value s (cut .after)) =
+      ap (walk-value s) (cut .is-cut)
+      ∙ value-of-walks-joined s laws (arcs net) valued u (cut .at) v (cut .before) (cut .after) (cut .walk-before) (cut .walk-after) in (
+        cut .at,
+        cut .is-a-border,
+        subst (NoWorse s (s .join (best s net u (cut .at)) (best s net (cut .at) v))) (sym value ∙ r .2)
+            (join-keeps-the-order-twice s laws (best s net u (cut .at)) (walk-value s (cut .before)) (best s net (cut .at) v) (walk-value s (cut .after))
+            (dist .is-a-value u (cut .at)) (walk-value-is-a-value s laws (arcs net) valued u (cut .at) (cut .before) (cut .walk-before))
+            (dist .is-a-value (cut .at) v) (walk-value-is-a-value s laws (arcs net) valued (cut .at) v (cut .after) (cut .walk-after))
             (walks .no-walk-is-better u (cut .at) (cut .before) (cut .walk-before))
-            (walks .no-walk-is-better (cut .at) v (cut .after) (cut .walk-after)))))
+            (walks .no-walk-is-better (cut .at) v (cut .after) (cut .walk-after))),
+      ))
       (walks .reached u v)
 
   pub best-passes-the-order : (order : List ℕ) → Border-order net order → (u v : ℕ) → (best s net u v ≡ s .none → ⊥)

@@ -8,3 +8,8 @@ pub mod BestWithin
 pub mod AllWalks
 pub mod NetworkArcs
 pub mod WellDefined
+pub mod DistrictArcs
+pub mod Shortcuts
+pub mod Crossing
+pub mod DistrictBest
+pub mod Offers

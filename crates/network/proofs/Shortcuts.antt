@@ -12,9 +12,10 @@ use Rattle.network.specs.Walks.{Arc, arc}
 use Rattle.network.specs.Networks.{Network, Sound, district, arcs, best, is-border}
 use Rattle.network.specs.Rows.{borders-of, shortcuts-from, shortcuts-among, shortcuts, inner-arcs, district-arcs}
 use Rattle.network.proofs.Distance.{Distance}
-use Rattle.network.proofs.DistrictLists.{in-append-left, in-append-right, in-append-cases}
-use Rattle.network.proofs.DistrictArcs.{turned, arcs-run-both-ways, inner-is-in, in-is-inner, sound-arc, arc-has-a-value}
-use Rattle.network.proofs.DistrictArcs.{border-is-a-junction, junction-is-counted, border-is-listed, listed-is-border}
+use Rattle.network.proofs.Lists.{in-append-left, in-append-right, in-append-cases}
+use Rattle.network.proofs.Walks.{turned}
+use Rattle.network.proofs.NetworkArcs.{arcs-turn, junction-is-counted, arc-ends-are-counted, arc-worths-are-values}
+use Rattle.network.proofs.DistrictArcs.{inner-is-in, in-is-inner, border-is-a-junction, border-is-listed, listed-is-border}
 
 -- a shortcut leads from b to c: they are two, and one reaches the other
 abbrev pub Joins : Scale → Network → ℕ → ℕ → Type 0
@@ -35,8 +36,8 @@ module _ (s : Scale) (net : Network) where
       (cond (eqb (best s net b c) (s .none)) (shortcuts-from s net b cs) (shortcut s net b c ∷ shortcuts-from s net b cs))
       (λ l. In a l → Found) (λ _. later)
       (λ differ. cond-both (eqb (best s net b c) (s .none)) (shortcuts-from s net b cs) (shortcut s net b c ∷ shortcuts-from s net b cs)
-        (λ l. In a l → Found) (λ _. later)
-        (λ reached. ⊎-elim (λ e. (c, inl refl, (eqb-false b c differ, eqb-false (best s net b c) (s .none) reached), e)) later))
+      (λ l. In a l → Found) (λ _. later)
+      (λ reached. ⊎-elim (λ e. (c, inl refl, (eqb-false b c differ, eqb-false (best s net b c) (s .none) reached), e)) later))
       h
 
   one-is-from : (b c : ℕ) (cs : List ℕ) → In c cs → Joins s net b c → In (shortcut s net b c) (shortcuts-from s net b cs)
@@ -49,7 +50,7 @@ module _ (s : Scale) (net : Network) where
       (cond (eqb (best s net b d) (s .none)) (shortcuts-from s net b cs) (shortcut s net b d ∷ shortcuts-from s net b cs))
       (In (shortcut s net b c)) (λ _. one-is-from b c cs h joins)
       (λ _. cond-both (eqb (best s net b d) (s .none)) (shortcuts-from s net b cs) (shortcut s net b d ∷ shortcuts-from s net b cs)
-        (In (shortcut s net b c)) (λ _. one-is-from b c cs h joins) (λ _. inr (one-is-from b c cs h joins)))
+      (In (shortcut s net b c)) (λ _. one-is-from b c cs h joins) (λ _. inr (one-is-from b c cs h joins)))
 
   among-is-one : (bs cs : List ℕ) (a : Arc) → In a (shortcuts-among s net bs cs)
       → (b : ℕ) × (c : ℕ) × In b bs × In c cs × Joins s net b c × (a ≡ shortcut s net b c)
@@ -80,22 +81,26 @@ module _ (s : Scale) (laws : Laws s) (net : Network) (sound : Sound s net) (k : 
   pub shortcut-is-one : (a : Arc) → In a (shortcuts s net k) → (b : ℕ) × (c : ℕ) × Is-shortcut s net k b c × (a ≡ shortcut s net b c)
   shortcut-is-one a h =
       let r = among-is-one s net (borders-of net k) (borders-of net k) a h in
-      let from = listed-is-border s laws net sound k (r .0) (r .2) in
-      let to = listed-is-border s laws net sound k (r .1) (r .3) in
-      (r .0, r .1, record {
-        from-is-a-border = from .0;
-        from-is-here = from .1;
-        to-is-a-border = to .0;
-        to-is-here = to .1;
-        ends-differ = r .4 .0;
-        is-reached = r .4 .1;
-      }, r .5)
+      let from = listed-is-border net k (r .0) (r .2) in
+      let to = listed-is-border net k (r .1) (r .3) in (
+        r .0,
+        r .1,
+        record {
+          from-is-a-border = from .0;
+          from-is-here = from .1;
+          to-is-a-border = to .0;
+          to-is-here = to .1;
+          ends-differ = r .4 .0;
+          is-reached = r .4 .1;
+        },
+        r .5,
+      )
 
   pub one-is-a-shortcut : (b c : ℕ) → Is-shortcut s net k b c → In (shortcut s net b c) (shortcuts s net k)
   one-is-a-shortcut b c is =
       one-is-among s net b c (borders-of net k) (borders-of net k)
-      (border-is-listed s laws net sound k b (is .from-is-a-border) (is .from-is-here))
-      (border-is-listed s laws net sound k c (is .to-is-a-border) (is .to-is-here)) (is .ends-differ, is .is-reached)
+      (border-is-listed s net sound k b (is .from-is-a-border) (is .from-is-here))
+      (border-is-listed s net sound k c (is .to-is-a-border) (is .to-is-here)) (is .ends-differ, is .is-reached)
 
   pub inner-is-in-district : (a : Arc) → In a (inner-arcs net k) → In a (district-arcs s net k)
   inner-is-in-district a h = in-append-left a (inner-arcs net k) (shortcuts s net k) h
@@ -111,20 +116,19 @@ module _ (s : Scale) (laws : Laws s) (net : Network) (sound : Sound s net) (k : 
       → In (a .from) (count-up 1 (net .junctions)) × In (a .to) (count-up 1 (net .junctions))
   district-arc-ends a h =
       ⊎-elim
-      (λ i. let fine = sound-arc s laws net sound a (inner-is-in net k a i .0) in
-        (junction-is-counted s laws net sound (a .from) (fine .from-is-a-junction),
-         junction-is-counted s laws net sound (a .to) (fine .to-is-a-junction)))
+      (λ i. arc-ends-are-counted s net sound a (inner-is-in net k a i .0))
       (λ i. let r = shortcut-is-one a i in
-        let Ends : Arc → Type 0 = λ x. In (x .from) (count-up 1 (net .junctions)) × In (x .to) (count-up 1 (net .junctions)) in
-        subst Ends (sym (r .3))
-        (junction-is-counted s laws net sound (r .0) (border-is-a-junction s laws net sound (r .0) (r .2 .from-is-a-border)),
-         junction-is-counted s laws net sound (r .1) (border-is-a-junction s laws net sound (r .1) (r .2 .to-is-a-border))))
+      let Ends : Arc → Type 0 = λ x. In (x .from) (count-up 1 (net .junctions)) × In (x .to) (count-up 1 (net .junctions)) in
+      subst Ends (sym (r .3)) (
+        junction-is-counted net (r .0) (border-is-a-junction s net sound (r .0) (r .2 .from-is-a-border)),
+        junction-is-counted net (r .1) (border-is-a-junction s net sound (r .1) (r .2 .to-is-a-border)),
+      ))
       (district-arc-cases a h)
 
   module _ (dist : Distance s (best s net)) where
     pub district-arc-has-a-value : (a : Arc) → In a (district-arcs s net k) → Value s (a .worth)
     district-arc-has-a-value a h =
-        ⊎-elim (λ i. arc-has-a-value s laws net sound a (inner-is-in net k a i .0))
+        ⊎-elim (λ i. arc-worths-are-values s laws net sound a (inner-is-in net k a i .0))
         (λ i. let r = shortcut-is-one a i in subst (λ x. Value s (x .worth)) (sym (r .3)) (dist .is-a-value (r .0) (r .1)))
         (district-arc-cases a h)
 
@@ -133,18 +137,18 @@ module _ (s : Scale) (laws : Laws s) (net : Network) (sound : Sound s net) (k : 
     district-arcs-run-both-ways a h =
         ⊎-elim
         (λ i. let r = inner-is-in net k a i in
-          inner-is-in-district (turned a)
-          (in-is-inner net k (turned a) (arcs-run-both-ways (net .roads) a (r .0)) (r .2) (r .1)))
+        inner-is-in-district (turned a)
+        (in-is-inner net k (turned a) (arcs-turn net a (r .0)) (r .2) (r .1)))
         (λ i. let r = shortcut-is-one a i in
-          let same : best s net (r .1) (r .0) ≡ best s net (r .0) (r .1) = dist .both-ways (r .1) (r .0) in
-          let back : Is-shortcut s net k (r .1) (r .0) = record {
-            from-is-a-border = r .2 .to-is-a-border;
-            from-is-here = r .2 .to-is-here;
-            to-is-a-border = r .2 .from-is-a-border;
-            to-is-here = r .2 .from-is-here;
-            ends-differ = λ e. r .2 .ends-differ (sym e);
-            is-reached = λ e. r .2 .is-reached (sym same ∙ e);
-          } in
-          subst (λ x. In x (district-arcs s net k)) (ap (arc (r .1) (r .0)) same ∙ ap turned (sym (r .3)))
-          (shortcut-is-in-district (shortcut s net (r .1) (r .0)) (one-is-a-shortcut (r .1) (r .0) back)))
+        let same : best s net (r .1) (r .0) ≡ best s net (r .0) (r .1) = dist .both-ways (r .1) (r .0) in
+        let back : Is-shortcut s net k (r .1) (r .0) = record {
+          from-is-a-border = r .2 .to-is-a-border;
+          from-is-here = r .2 .to-is-here;
+          to-is-a-border = r .2 .from-is-a-border;
+          to-is-here = r .2 .from-is-here;
+          ends-differ = λ e. r .2 .ends-differ (sym e);
+          is-reached = λ e. r .2 .is-reached (sym same ∙ e);
+        } in
+        subst (λ x. In x (district-arcs s net k)) (ap (arc (r .1) (r .0)) same ∙ ap turned (sym (r .3)))
+        (shortcut-is-in-district (shortcut s net (r .1) (r .0)) (one-is-a-shortcut (r .1) (r .0) back)))
         (district-arc-cases a h)
