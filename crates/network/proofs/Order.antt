@@ -59,8 +59,3 @@ module _ (s : Scale) (laws : Laws s) where
   joining-is-never-better a b va vb =
       subst (λ x. NoWorse s x (s .join a b)) (laws .start-changes-nothing b vb)
       (laws .join-keeps-the-order (s .start) a b (laws .start-is-a-value) va vb (laws .start-is-best a va))
-
-  -- nor does what is joined on behind
-  pub joining-behind-is-never-better : (a b : ℕ) → Value s a → Value s b → NoWorse s a (s .join a b)
-  joining-behind-is-never-better a b va vb =
-      rw (laws .join-is-commutative a b va vb) (joining-is-never-better b a vb va)

@@ -2,14 +2,14 @@
 use mathlib.Core.Path.{_≡_, refl, sym, ap, _∙_, subst}
 use mathlib.Core.Bool.{true, cond}
 use mathlib.Core.List.{List, [], _∷_}
-use mathlib.Core.Logic.{_⊎_, inl, inr, ⊎-elim}
+use mathlib.Core.Logic.{inl, inr, ⊎-elim}
 use Prim.Native.Nat.{ℕ}
 use lib.Dec.{eqb}
 use Rattle.std.proofs.shelf.Tests.{cond-both, eqb-false, ne-eqb}
 use Rattle.measure.specs.Scale.{Scale, Value, Laws}
 use Rattle.network.specs.Lists.{In, count-up}
 use Rattle.network.specs.Walks.{Arc, arc}
-use Rattle.network.specs.Networks.{Network, Sound, district, arcs, best, is-border}
+use Rattle.network.specs.Networks.{Network, Sound, district, best, is-border}
 use Rattle.network.specs.Rows.{borders-of, shortcuts-from, shortcuts-among, shortcuts, inner-arcs, district-arcs}
 use Rattle.network.proofs.Distance.{Distance}
 use Rattle.network.proofs.Lists.{in-append-left, in-append-right, in-append-cases}
@@ -77,78 +77,69 @@ pub record Is-shortcut (s : Scale) (net : Network) (k b c : ℕ) : Type 0 where
   pub ends-differ : b ≡ c → ⊥
   pub is-reached : best s net b c ≡ s .none → ⊥
 
-module _ (s : Scale) (laws : Laws s) (net : Network) (sound : Sound s net) (k : ℕ) where
-  pub shortcut-is-one : (a : Arc) → In a (shortcuts s net k) → (b : ℕ) × (c : ℕ) × Is-shortcut s net k b c × (a ≡ shortcut s net b c)
-  shortcut-is-one a h =
-      let r = among-is-one s net (borders-of net k) (borders-of net k) a h in
+module _ (s : Scale) (net : Network) (k : ℕ) where
+  -- what holds of each arc inside a district, and of each of its shortcuts, holds of each arc of its network
+  pub each-district-arc :
+      (P : Arc → Type 0) → ((a : Arc) → In a (inner-arcs net k) → P a) → ((b c : ℕ) → Is-shortcut s net k b c → P (shortcut s net b c))
+      → (a : Arc) → In a (district-arcs s net k) → P a
+  each-district-arc P inner short a h =
+      let by-shortcut : In a (shortcuts s net k) → P a =
+      λ i.
+      let r = among-is-one s net (borders-of net k) (borders-of net k) a i in
       let from = listed-is-border net k (r .0) (r .2) in
-      let to = listed-is-border net k (r .1) (r .3) in (
-        r .0,
-        r .1,
-        record {
-          from-is-a-border = from .0;
-          from-is-here = from .1;
-          to-is-a-border = to .0;
-          to-is-here = to .1;
-          ends-differ = r .4 .0;
-          is-reached = r .4 .1;
-        },
-        r .5,
-      )
-
-  pub one-is-a-shortcut : (b c : ℕ) → Is-shortcut s net k b c → In (shortcut s net b c) (shortcuts s net k)
-  one-is-a-shortcut b c is =
-      one-is-among s net b c (borders-of net k) (borders-of net k)
-      (border-is-listed s net sound k b (is .from-is-a-border) (is .from-is-here))
-      (border-is-listed s net sound k c (is .to-is-a-border) (is .to-is-here)) (is .ends-differ, is .is-reached)
+      let to = listed-is-border net k (r .1) (r .3) in
+      subst P (sym (r .5)) (short (r .0) (r .1) (record {
+        from-is-a-border = from .0;
+        from-is-here = from .1;
+        to-is-a-border = to .0;
+        to-is-here = to .1;
+        ends-differ = r .4 .0;
+        is-reached = r .4 .1;
+      })) in
+      ⊎-elim (inner a) by-shortcut (in-append-cases a (inner-arcs net k) (shortcuts s net k) h)
 
   pub inner-is-in-district : (a : Arc) → In a (inner-arcs net k) → In a (district-arcs s net k)
-  inner-is-in-district a h = in-append-left a (inner-arcs net k) (shortcuts s net k) h
+  inner-is-in-district a = in-append-left a (inner-arcs net k) (shortcuts s net k)
 
-  pub shortcut-is-in-district : (a : Arc) → In a (shortcuts s net k) → In a (district-arcs s net k)
-  shortcut-is-in-district a h = in-append-right a (inner-arcs net k) (shortcuts s net k) h
-
-  pub district-arc-cases : (a : Arc) → In a (district-arcs s net k) → In a (inner-arcs net k) ⊎ In a (shortcuts s net k)
-  district-arc-cases a h = in-append-cases a (inner-arcs net k) (shortcuts s net k) h
+module _ (s : Scale) (net : Network) (sound : Sound s net) (k : ℕ) where
+  pub shortcut-is-in-district : (b c : ℕ) → Is-shortcut s net k b c → In (shortcut s net b c) (district-arcs s net k)
+  shortcut-is-in-district b c is =
+      in-append-right (shortcut s net b c) (inner-arcs net k) (shortcuts s net k)
+      (one-is-among s net b c (borders-of net k) (borders-of net k)
+      (border-is-listed s net sound k b (is .from-is-a-border) (is .from-is-here))
+      (border-is-listed s net sound k c (is .to-is-a-border) (is .to-is-here)) (is .ends-differ, is .is-reached))
 
   -- both ends of a district's arc are counted as junctions
-  pub district-arc-ends : (a : Arc) → In a (district-arcs s net k)
-      → In (a .from) (count-up 1 (net .junctions)) × In (a .to) (count-up 1 (net .junctions))
-  district-arc-ends a h =
-      ⊎-elim
-      (λ i. arc-ends-are-counted s net sound a (inner-is-in net k a i .0))
-      (λ i. let r = shortcut-is-one a i in
-      let Ends : Arc → Type 0 = λ x. In (x .from) (count-up 1 (net .junctions)) × In (x .to) (count-up 1 (net .junctions)) in
-      subst Ends (sym (r .3)) (
-        junction-is-counted net (r .0) (border-is-a-junction s net sound (r .0) (r .2 .from-is-a-border)),
-        junction-is-counted net (r .1) (border-is-a-junction s net sound (r .1) (r .2 .to-is-a-border)),
+  pub district-arc-ends :
+      (a : Arc) → In a (district-arcs s net k) → In (a .from) (count-up 1 (net .junctions)) × In (a .to) (count-up 1 (net .junctions))
+  district-arc-ends =
+      each-district-arc s net k (λ a. In (a .from) (count-up 1 (net .junctions)) × In (a .to) (count-up 1 (net .junctions)))
+      (λ a i. arc-ends-are-counted s net sound a (inner-is-in net k a i .0))
+      (λ b c is. (
+        junction-is-counted net b (border-is-a-junction s net sound b (is .from-is-a-border)),
+        junction-is-counted net c (border-is-a-junction s net sound c (is .to-is-a-border)),
       ))
-      (district-arc-cases a h)
 
   module _ (dist : Distance s (best s net)) where
-    pub district-arc-has-a-value : (a : Arc) → In a (district-arcs s net k) → Value s (a .worth)
-    district-arc-has-a-value a h =
-        ⊎-elim (λ i. arc-worths-are-values s laws net sound a (inner-is-in net k a i .0))
-        (λ i. let r = shortcut-is-one a i in subst (λ x. Value s (x .worth)) (sym (r .3)) (dist .is-a-value (r .0) (r .1)))
-        (district-arc-cases a h)
+    pub district-arc-has-a-value : Laws s → (a : Arc) → In a (district-arcs s net k) → Value s (a .worth)
+    district-arc-has-a-value laws =
+        each-district-arc s net k (λ a. Value s (a .worth)) (λ a i. arc-worths-are-values s laws net sound a (inner-is-in net k a i .0))
+        (λ b c is. dist .is-a-value b c)
 
     -- the arcs of a district's network run both ways
     pub district-arcs-run-both-ways : (a : Arc) → In a (district-arcs s net k) → In (turned a) (district-arcs s net k)
-    district-arcs-run-both-ways a h =
-        ⊎-elim
-        (λ i. let r = inner-is-in net k a i in
-        inner-is-in-district (turned a)
-        (in-is-inner net k (turned a) (arcs-turn net a (r .0)) (r .2) (r .1)))
-        (λ i. let r = shortcut-is-one a i in
-        let same : best s net (r .1) (r .0) ≡ best s net (r .0) (r .1) = dist .both-ways (r .1) (r .0) in
-        let back : Is-shortcut s net k (r .1) (r .0) = record {
-          from-is-a-border = r .2 .to-is-a-border;
-          from-is-here = r .2 .to-is-here;
-          to-is-a-border = r .2 .from-is-a-border;
-          to-is-here = r .2 .from-is-here;
-          ends-differ = λ e. r .2 .ends-differ (sym e);
-          is-reached = λ e. r .2 .is-reached (sym same ∙ e);
-        } in
-        subst (λ x. In x (district-arcs s net k)) (ap (arc (r .1) (r .0)) same ∙ ap turned (sym (r .3)))
-        (shortcut-is-in-district (shortcut s net (r .1) (r .0)) (one-is-a-shortcut (r .1) (r .0) back)))
-        (district-arc-cases a h)
+    district-arcs-run-both-ways =
+        each-district-arc s net k (λ a. In (turned a) (district-arcs s net k))
+        (λ a i.
+        let r = inner-is-in net k a i in
+        inner-is-in-district s net k (turned a) (in-is-inner net k (turned a) (arcs-turn net a (r .0)) (r .2) (r .1)))
+        (λ b c is.
+        subst (λ x. In (arc c b x) (district-arcs s net k)) (dist .both-ways c b)
+        (shortcut-is-in-district c b (record {
+          from-is-a-border = is .to-is-a-border;
+          from-is-here = is .to-is-here;
+          to-is-a-border = is .from-is-a-border;
+          to-is-here = is .from-is-here;
+          ends-differ = λ e. is .ends-differ (sym e);
+          is-reached = λ e. is .is-reached (dist .both-ways b c ∙ e);
+        })))

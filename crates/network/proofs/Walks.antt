@@ -1,5 +1,5 @@
 -- Walks joined, walks turned round, and their values. Assumes nothing.
-use mathlib.Core.Path.{_≡_, refl, sym, ap, _∙_, subst}
+use mathlib.Core.Path.{_≡_, refl, sym, ap, ap₂, _∙_, subst}
 use mathlib.Core.List.{List, [], _∷_, _++_}
 use mathlib.Core.Logic.{_⊎_, inl, inr}
 use Prim.Native.Nat.{ℕ}
@@ -32,10 +32,6 @@ module _ (arcs : List Arc) where
   pub walks-join : (u t v : ℕ) (p q : List Arc) → Walk arcs u t p → Walk arcs t v q → Walk arcs u v (p ++ q)
   walks-join u t v [] q e k = subst (λ x. Walk arcs x v q) (sym e) k
   walks-join u t v (a ∷ p) q (i, e, h) k = (i, e, walks-join (a .to) t v p q h k)
-
-  -- a walk of one arc
-  pub walk-of-one-arc : (a : Arc) → In a arcs → Walk arcs (a .from) (a .to) (a ∷ [])
-  walk-of-one-arc a i = (i, refl, refl)
 
   -- where each arc has one the other way, so has each walk
   pub walk-backwards :
@@ -72,17 +68,17 @@ module _ (s : Scale) (laws : Laws s) (arcs : List Arc) (worths : (a : Arc) → I
       ∙ ap (λ x. s .join (walk-value s w) x) (value-of-one-arc (turned a) (turn a i))
       ∙ laws .join-is-commutative (walk-value s w) (a .worth) (walk-value-is-a-value (a .to) v w k) (worths a i)
 
-  -- by way of t, what is reached on both legs, joined, is reached
+  -- by way of t, what is walked on both legs, joined, is walked
+  pub walked-by-way : (u t v x y : ℕ) → Walked s arcs u t x → Walked s arcs t v y → Walked s arcs u v (s .join x y)
+  walked-by-way u t v x y (p, h, e) (q, k, f) =
+      (p ++ q, walks-join arcs u t v p q h k, value-of-walks-joined u t v p q h k ∙ ap₂ (s .join) e f)
+
+  -- and so is what is reached
   pub reached-by-way :
       (u t v x y : ℕ) → Value s x → Value s y → Reached s arcs u t x → Reached s arcs t v y → Reached s arcs u v (s .join x y)
   reached-by-way u t v x y vx vy (inl e) r = inl (ap (λ z. s .join z y) e ∙ laws .none-stays-none y vy)
   reached-by-way u t v x y vx vy (inr q) (inl e) = inl (ap (λ z. s .join x z) e ∙ none-stays-none-behind s laws x vx)
-  reached-by-way u t v x y vx vy (inr (p, h, e)) (inr (q, k, f)) =
-      inr (
-        p ++ q,
-        walks-join arcs u t v p q h k,
-        value-of-walks-joined u t v p q h k ∙ ap (λ z. s .join z (walk-value s q)) e ∙ ap (λ z. s .join x z) f,
-      )
+  reached-by-way u t v x y vx vy (inr p) (inr q) = inr (walked-by-way u t v x y p q)
 
   pub reached-backwards :
       ((a : Arc) → In a arcs → In (turned a) arcs) → (u v x : ℕ) → Reached s arcs u v x → Reached s arcs v u x

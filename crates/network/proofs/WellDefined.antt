@@ -1,7 +1,7 @@
 -- Best values of a network are well defined, and a distance. Assumes nothing.
 use mathlib.Core.Path.{_≡_, subst}
 use mathlib.Core.List.{map}
-use Prim.Native.Nat.{ℕ, suc, _-_, _≤_}
+use Prim.Native.Nat.{ℕ, _-_, _≤_}
 use native.Mathlib.Omega.{arith}
 use lib.ListN.{length, length-map}
 use Rattle.measure.specs.Scale.{Scale, Laws, NoWorse}
@@ -14,22 +14,19 @@ use Rattle.network.proofs.Lists.{length-count-up}
 use Rattle.network.proofs.Walks.{walk-value-is-a-value, one-is-best}
 use Rattle.network.proofs.FewArcs.{few-arcs-suffice}
 use Rattle.network.proofs.AllWalks.{none-where-no-walk, distance-is-best, best-within-distance, best-within-walk-distance}
-use Rattle.network.proofs.NetworkArcs.{arcs-turn, arc-worths-are-values, arc-ends-are-counted, walk-is-lawful}
+use Rattle.network.proofs.NetworkArcs.{arcs-turn, enough-arcs, arc-worths-are-values, arc-ends-are-counted, walk-is-lawful}
 use Rattle.network.proofs.Distance.{Distance, Walk-distance}
 
 module _ (s : Scale) (laws : Laws s) (net : Network) (allowed : Allowed s net) where
-  enough : length (count-up 1 (net .junctions)) ≤ suc (net .junctions - 1)
-  enough = rw length-count-up (omega arith)
-
   pub best-distance : Distance s (best s net)
   best-distance =
       best-within-distance s laws (arcs net) (arc-worths-are-values s laws net (allowed .sound)) (count-up 1 (net .junctions))
-      (arc-ends-are-counted s net (allowed .sound)) (net .junctions - 1) enough (arcs-turn net)
+      (arc-ends-are-counted s net (allowed .sound)) (net .junctions - 1) (enough-arcs net) (arcs-turn net)
 
   pub best-walks : Walk-distance s (arcs net) (best s net)
   best-walks =
       best-within-walk-distance s laws (arcs net) (arc-worths-are-values s laws net (allowed .sound)) (count-up 1 (net .junctions))
-      (arc-ends-are-counted s net (allowed .sound)) (net .junctions - 1) enough
+      (arc-ends-are-counted s net (allowed .sound)) (net .junctions - 1) (enough-arcs net)
 
   -- a walk of few arcs is not worth none, and for every walk there is one of few arcs
   pub no-walk-where-none : (u v : ℕ) → best s net u v ≡ s .none → No-walk net u v
