@@ -13,3 +13,4 @@ pub mod Shortcuts
 pub mod Crossing
 pub mod DistrictBest
 pub mod Offers
+pub mod Districts
