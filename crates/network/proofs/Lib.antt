@@ -1,3 +1,4 @@
 pub mod Distance
 pub mod LabelOrder
 pub mod Cells
+pub mod Covering
