@@ -2,3 +2,4 @@ pub mod Distance
 pub mod LabelOrder
 pub mod Cells
 pub mod Covering
+pub mod RowRanks
