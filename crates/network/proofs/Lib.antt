@@ -3,3 +3,4 @@ pub mod LabelOrder
 pub mod Cells
 pub mod Covering
 pub mod RowRanks
+pub mod Meeting
