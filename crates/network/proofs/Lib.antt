@@ -4,3 +4,5 @@ pub mod Cells
 pub mod Covering
 pub mod RowRanks
 pub mod Meeting
+pub mod RowEntries
+pub mod RowsJoined
