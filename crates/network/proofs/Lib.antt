@@ -6,3 +6,4 @@ pub mod RowRanks
 pub mod Meeting
 pub mod RowEntries
 pub mod RowsJoined
+pub mod EntriesNeeded
