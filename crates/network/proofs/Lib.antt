@@ -7,3 +7,4 @@ pub mod Meeting
 pub mod RowEntries
 pub mod RowsJoined
 pub mod EntriesNeeded
+pub mod TwoWayRows
