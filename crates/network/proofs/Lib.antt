@@ -8,3 +8,4 @@ pub mod RowEntries
 pub mod RowsJoined
 pub mod EntriesNeeded
 pub mod TwoWayRows
+pub mod Members
