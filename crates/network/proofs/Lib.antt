@@ -9,3 +9,4 @@ pub mod RowsJoined
 pub mod EntriesNeeded
 pub mod TwoWayRows
 pub mod Members
+pub mod RowsAnswer
