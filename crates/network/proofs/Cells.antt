@@ -1,15 +1,15 @@
 -- What the cell of a junction under a hub is, by the hub's rank. Assumes nothing.
 use mathlib.Core.Path.{_≡_, refl, sym, _∙_}
-use mathlib.Core.Bool.{Bool, true, false, cond, not, _&&_}
+use mathlib.Core.Bool.{Bool, true, false, not, _&&_}
 use mathlib.Core.List.{List, [], _∷_}
 use mathlib.Core.Logic.{_⊎_, inl, inr, ⊎-elim}
-use Prim.Native.Nat.{ℕ, zero, suc, _≤_, _<_}
+use Prim.Native.Nat.{ℕ, zero, suc, _<_}
 use native.Mathlib.Omega.{arith}
 use lib.Dec.{eqb}
 use lib.ListN.{length, getD, take}
 use Rattle.std.proofs.shelf.Lists.{getD-take, length-take-le}
-use Rattle.std.proofs.shelf.Tests.{both-ways, cases-bool, cases-eq, eqb-true, eqb-false, ne-eqb, and-parts, and-from, and-cases, and-left, and-right, not-true, not-false, not-from-true, not-from-false, cond-true, cond-false}
-use Rattle.measure.specs.Scale.{Scale, Value, Laws, NoWorse}
+use Rattle.std.proofs.shelf.Tests.{both-ways, cases-bool, cases-eq, eqb-false, ne-eqb, and-parts, and-from, not-true, not-from-false, cond-true, cond-false}
+use Rattle.measure.specs.Scale.{Scale, NoWorse}
 use Rattle.network.specs.Labels.{worse-by, worse-by-all, cell}
 
 -- the way from u to v by h is as good as d has it

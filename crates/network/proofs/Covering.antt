@@ -1,11 +1,9 @@
 -- The earliest hub that covers two junctions has an entry in both rows, one-way streets included. Assumes nothing.
-use mathlib.Core.Path.{_≡_, sym, _∙_, ap, subst}
-use mathlib.Core.Bool.{Bool, true, false}
+use mathlib.Core.Path.{_≡_, _∙_, ap, subst}
+use mathlib.Core.Bool.{true}
 use mathlib.Core.List.{List}
-use mathlib.Core.Logic.{_⊎_, inl, inr, ⊎-elim}
+use mathlib.Core.Logic.{⊎-elim}
 use Prim.Native.Nat.{ℕ, _<_}
-use native.Mathlib.Omega.{arith}
-use lib.ListN.{length}
 use Rattle.std.proofs.shelf.Tests.{both-ways, cases-bool}
 use Rattle.measure.specs.Scale.{Scale, Value, Laws, NoWorse}
 use Rattle.network.specs.Labels.{worse-by}

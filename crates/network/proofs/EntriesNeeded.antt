@@ -1,8 +1,8 @@
 -- Every entry of a row is needed, and a cell can be told from the entries of two rows. Assumes nothing.
-use mathlib.Core.Path.{_≡_, refl, sym, _∙_, ap, subst}
-use mathlib.Core.Bool.{Bool, true, false, not}
+use mathlib.Core.Path.{_≡_, sym, _∙_, ap, subst}
+use mathlib.Core.Bool.{true, not}
 use mathlib.Core.List.{List}
-use mathlib.Core.Logic.{_⊎_, inl, inr, ⊎-elim}
+use mathlib.Core.Logic.{⊎-elim}
 use Prim.Native.Nat.{ℕ, _<_}
 use native.Mathlib.Omega.{arith}
 use lib.Dec.{eqb}
@@ -11,14 +11,14 @@ use Rattle.std.specs.declared.option.Option.{Option}
 use Rattle.std.specs.declared.option.Option.the-variants.{Some, None}
 use Rattle.std.proofs.shelf.Tests.{both-ways, cases-bool, cases-order}
 use Rattle.std.proofs.shelf.Elements.{all-kept-by}
-use Rattle.measure.specs.Scale.{Scale, Value, Laws, NoWorse}
+use Rattle.measure.specs.Scale.{Scale, Value, Laws}
 use Rattle.network.specs.Labels.{Entry, worse-by, row, value-at, meet, struck}
 use Rattle.network.specs.Theorems.{Falls-short}
 use Rattle.network.proofs.LabelOrder.{no-worse-itself, none-behind-stays-none, start-behind-changes-nothing}
 use Rattle.network.proofs.Cells.{hub-of, Has-entry}
 use Rattle.network.proofs.Covering.{Directed, turned, join-turned, Shared-cover, cover-is-shared}
 use Rattle.network.proofs.RowRanks.{Rises}
-use Rattle.network.proofs.Meeting.{offered, All-values, Meets, meets, in-struck}
+use Rattle.network.proofs.Meeting.{Meets, meets, in-struck}
 use Rattle.network.proofs.RowEntries.{Row-entry, in-row, row-has-values, value-under-name-cases, value-of-entry}
 
 -- The row of b has the values from b to the hubs, `turned d`, and the row of v those from the hubs to v.

@@ -1,8 +1,8 @@
 -- What two rows joined give: the best of what their common hubs offer. Assumes nothing.
 use mathlib.Core.Path.{_≡_, refl, sym, _∙_, ap, subst}
-use mathlib.Core.Bool.{Bool, true, false, cond, not}
+use mathlib.Core.Bool.{Bool, true, not}
 use mathlib.Core.List.{List, [], _∷_}
-use mathlib.Core.Logic.{_⊎_, inl, inr, ⊎-elim}
+use mathlib.Core.Logic.{inl, inr, ⊎-elim}
 use Prim.Native.Nat.{ℕ}
 use lib.Dec.{eqb}
 use Rattle.std.specs.declared.option.Option.{Option}
@@ -11,7 +11,7 @@ use Rattle.std.specs.shelf.Lists.{All, kept-by}
 use Rattle.std.proofs.shelf.Tests.{eqb-true, eqb-false, not-true, cond-both}
 use Rattle.measure.specs.Scale.{Scale, Value, Laws, NoWorse}
 use Rattle.network.specs.Lists.{In}
-use Rattle.network.specs.Labels.{Entry, entry, put-cell, value-at, offers, better-offer, best-offer, meet, struck}
+use Rattle.network.specs.Labels.{Entry, entry, value-at, offers, better-offer, best-offer, meet, struck}
 use Rattle.network.proofs.LabelOrder.{no-worse-itself, better-is-no-worse}
 
 -- what an entry offers together with the other row: the joined value, which is none where that row has nothing under its hub

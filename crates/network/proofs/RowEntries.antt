@@ -1,12 +1,12 @@
 -- The entries of a row over any distance and any list of hubs. Assumes nothing.
-use mathlib.Core.Path.{_≡_, refl, sym, _∙_, ap, subst}
+use mathlib.Core.Path.{_≡_, sym, _∙_, subst}
 use mathlib.Core.List.{List}
 use mathlib.Core.Logic.{_⊎_, inl, inr, ⊎-elim}
 use Prim.Native.Nat.{ℕ, _<_}
 use native.Mathlib.Omega.{arith}
 use lib.ListN.{length}
 use Rattle.std.specs.shelf.Lists.{All}
-use Rattle.measure.specs.Scale.{Scale, Value, Laws}
+use Rattle.measure.specs.Scale.{Scale, Value}
 use Rattle.network.specs.Lists.{In}
 use Rattle.network.specs.Labels.{Entry, entry, row, value-at, Ascends}
 use Rattle.network.specs.Theorems.{Proper}

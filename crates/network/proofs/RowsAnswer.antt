@@ -1,25 +1,23 @@
 -- What border rows and district rows give, from what best values are. Assumes nothing.
 use mathlib.Core.Path.{_≡_, refl, sym, _∙_, ap, subst}
 use mathlib.Core.List.{List}
-use mathlib.Core.Logic.{_⊎_, inl, inr, ⊎-elim}
+use mathlib.Core.Logic.{inl, inr, ⊎-elim}
 use Prim.Native.Nat.{ℕ, _<_}
-use native.Mathlib.Omega.{arith}
 use lib.ListN.{length, getD}
 use Rattle.std.specs.declared.option.Option.{Option}
 use Rattle.std.specs.declared.option.Option.the-variants.{Some, None}
-use Rattle.std.specs.shelf.Lists.{All}
 use Rattle.std.proofs.shelf.Tests.{cases-eq}
-use Rattle.measure.specs.Scale.{Scale, Laws, NoWorse}
+use Rattle.measure.specs.Scale.{Scale, Laws}
 use Rattle.network.specs.Lists.{In}
 use Rattle.network.specs.Networks.{Network, Junction, district, arcs, best}
 use Rattle.network.specs.Labels.{Entry, row, meet, struck}
 use Rattle.network.specs.Rows.{border-row, district-best, members, district-row}
-use Rattle.network.specs.Theorems.{No-walk, Answers, Border-rows-answer, Falls-short, Every-entry-is-needed, Cells-follow-from-entries, Proper, Rows-ascend}
+use Rattle.network.specs.Theorems.{No-walk, Answers, Border-rows-answer, Falls-short, Every-entry-is-needed, Cells-follow-from-entries, Rows-ascend}
 use Rattle.network.proofs.Distance.{Distance, Walk-distance}
 use Rattle.network.proofs.LabelOrder.{equal-is-no-worse}
-use Rattle.network.proofs.Cells.{Covers, hub-of}
+use Rattle.network.proofs.Cells.{Covers}
 use Rattle.network.proofs.RowRanks.{Rises, all-from-in}
-use Rattle.network.proofs.RowEntries.{Row-entry, in-row, row-is-proper, row-ascends}
+use Rattle.network.proofs.RowEntries.{in-row, row-is-proper, row-ascends}
 use Rattle.network.proofs.RowsJoined.{Gives, None-or-covered}
 use Rattle.network.proofs.TwoWayRows.{two-rows-give, entry-is-needed, looking-up-is-enough}
 use Rattle.network.proofs.Members.{rank-of, members-rise, member-is-inside, rank-of-member}

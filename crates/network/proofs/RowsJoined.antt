@@ -1,6 +1,5 @@
 -- Rows over any distance: joined they give it, every entry is needed, and looking up is enough. Assumes nothing.
 use mathlib.Core.Path.{_≡_, refl, sym, _∙_, ap, subst}
-use mathlib.Core.Bool.{Bool, true, false}
 use mathlib.Core.List.{List}
 use mathlib.Core.Logic.{_⊎_, inl, inr, ⊎-elim, _↔_}
 use Prim.Native.Nat.{ℕ, _<_}
@@ -8,18 +7,16 @@ use native.Mathlib.Omega.{arith}
 use lib.ListN.{length}
 use Rattle.std.specs.declared.option.Option.{Option}
 use Rattle.std.specs.declared.option.Option.the-variants.{Some, None}
-use Rattle.std.proofs.shelf.Tests.{both-ways, cases-bool, cases-eq, cases-order}
-use Rattle.std.proofs.shelf.Elements.{all-kept-by}
+use Rattle.std.proofs.shelf.Tests.{cases-eq}
 use Rattle.measure.specs.Scale.{Scale, Value, Laws, NoWorse}
 use Rattle.network.specs.Lists.{In}
-use Rattle.network.specs.Labels.{Entry, entry, worse-by, row, value-at, meet, worth-of, struck}
-use Rattle.network.specs.Theorems.{Falls-short}
-use Rattle.network.proofs.LabelOrder.{no-worse-itself, none-alone-is-worst, none-behind-stays-none, start-behind-changes-nothing}
+use Rattle.network.specs.Labels.{Entry, entry, row, value-at, meet, worth-of}
+use Rattle.network.proofs.LabelOrder.{none-alone-is-worst, none-behind-stays-none}
 use Rattle.network.proofs.Cells.{Covers, hub-of, Has-entry}
-use Rattle.network.proofs.Covering.{Directed, turned, turned-is-directed, join-turned, joined-value, Shared-cover, cover-is-shared}
+use Rattle.network.proofs.Covering.{Directed, turned, joined-value, Shared-cover, cover-is-shared}
 use Rattle.network.proofs.RowRanks.{Rises}
-use Rattle.network.proofs.Meeting.{offered, All-values, Is-the-best-offer, Meets, meets, in-struck}
-use Rattle.network.proofs.RowEntries.{Row-entry, in-row, entry-in-row, row-has-values, value-under-name-cases, value-of-entry}
+use Rattle.network.proofs.Meeting.{offered, All-values, Meets, meets}
+use Rattle.network.proofs.RowEntries.{in-row, entry-in-row, row-has-values, value-under-name-cases, value-of-entry}
 
 -- two rows joined give x: nothing where it is none, and otherwise an offer worth x
 abbrev pub Gives : Scale → ℕ → Option Entry → Type 0

@@ -1,16 +1,13 @@
 -- Rows over a distance that is the same both ways: what they give, what they need, what tells a cell. Assumes nothing.
-use mathlib.Core.Path.{_≡_, refl, sym, _∙_, ap, subst, fun-ext}
-use mathlib.Core.Bool.{true}
+use mathlib.Core.Path.{_≡_, sym, _∙_, ap, subst, fun-ext}
 use mathlib.Core.List.{List}
 use mathlib.Core.Logic.{_↔_}
 use Prim.Native.Nat.{ℕ, _<_}
-use native.Mathlib.Omega.{arith}
 use lib.ListN.{length}
-use Rattle.std.specs.declared.option.Option.{Option}
 use Rattle.std.specs.declared.option.Option.the-variants.{None}
 use Rattle.measure.specs.Scale.{Scale, Laws}
-use Rattle.network.specs.Labels.{Entry, row, value-at, meet, worth-of, struck}
-use Rattle.network.specs.Theorems.{Falls-short, Told-by-entries, Looking-up-is-enough}
+use Rattle.network.specs.Labels.{Entry, row, meet, worth-of, struck}
+use Rattle.network.specs.Theorems.{Falls-short, Looking-up-is-enough}
 use Rattle.network.proofs.Distance.{Distance}
 use Rattle.network.proofs.Cells.{hub-of, cell-at, Has-entry, cell-with-entry, cell-not-none-has}
 use Rattle.network.proofs.Covering.{directed, turned}
