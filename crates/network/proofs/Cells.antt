@@ -33,15 +33,15 @@ pub record Has-entry (s : Scale) (d : ℕ → ℕ → ℕ) (hubs : List ℕ) (v 
 pub first-failure :
     (p : ℕ → Bool) (n : ℕ)
     → ((j : ℕ) → j < n → p j ≡ true)
-      ⊎ ((i : ℕ) × (i < n) × (p i ≡ false) × ((j : ℕ) → j < i → p j ≡ true))
+    ⊎ ((i : ℕ) × (i < n) × (p i ≡ false) × ((j : ℕ) → j < i → p j ≡ true))
 first-failure p zero = inl (λ j h. absurd (omega arith))
 first-failure p (suc n) =
     ⊎-elim
     (λ all.
-      ⊎-elim
-      (λ t. inl (λ j h. ⊎-elim (λ e. rw e t) (λ ne. all j (omega arith)) (cases-eq j n)))
-      (λ f. inr (n, omega arith, f, all))
-      (cases-bool (p n)))
+    ⊎-elim
+    (λ t. inl (λ j h. ⊎-elim (λ e. rw e t) (λ ne. all j (omega arith)) (cases-eq j n)))
+    (λ f. inr (n, omega arith, f, all))
+    (cases-bool (p n)))
     (λ r. inr (r .0, omega arith, r .2, r .3))
     (first-failure p n)
 
@@ -74,7 +74,7 @@ module _ (s : Scale) (d : ℕ → ℕ → ℕ) (hubs : List ℕ) (v i : ℕ) (lo
       and-from (not (eqb (d (hub-of hubs i) v) (s .none))) (worse-by-all s d (hub-of hubs i) v (take i hubs))
       (not-from-false (eqb (d (hub-of hubs i) v) (s .none)) (ne-eqb (d (hub-of hubs i) v) (s .none) (has .reached)))
       (worse-by-each s d (hub-of hubs i) v (take i hubs)
-        (λ j h. let k = taken-is-low j h in rw (getD-take i hubs j 0 k) (has .earlier-are-worse j k)))
+      (λ j h. let k = taken-is-low j h in rw (getD-take i hubs j 0 k) (has .earlier-are-worse j k)))
 
   passed-has : test ≡ true → Has-entry s d hubs v i
   unfolding test
@@ -84,9 +84,9 @@ module _ (s : Scale) (d : ℕ → ℕ → ℕ) (hubs : List ℕ) (v i : ℕ) (lo
       record {
         reached = eqb-false (d b v) (s .none) (not-true (eqb (d b v) (s .none)) (parts .0));
         earlier-are-worse = λ j h.
-          let e = length-take-le i hubs (omega arith) in
-          let k : j < length (take i hubs) = omega arith in
-          rw (getD-take i hubs j 0 h) at (all-are-worse s d b v (take i hubs) (parts .1) j k);
+            let e = length-take-le i hubs (omega arith) in
+            let k : j < length (take i hubs) = omega arith in
+            rw (getD-take i hubs j 0 h) at (all-are-worse s d b v (take i hubs) (parts .1) j k);
       }
 
   -- where v has an entry, its cell is the value from the hub
@@ -124,7 +124,7 @@ module _ (s : Scale) (d : ℕ → ℕ → ℕ) (hubs : List ℕ) (v i : ℕ) (lo
   none-cell-is-covered e =
       ⊎-elim inl
       (λ ne. ⊎-elim
-        (λ all. inl (sym (cell-with-entry (record { reached = ne; earlier-are-worse = all })) ∙ e))
-        (λ r. inr (r .0, r .1, r .2))
-        (first-failure (λ j. worse-by s d (hub-of hubs i) v (hub-of hubs j)) i))
+      (λ all. inl (sym (cell-with-entry (record { reached = ne; earlier-are-worse = all })) ∙ e))
+      (λ r. inr (r .0, r .1, r .2))
+      (first-failure (λ j. worse-by s d (hub-of hubs i) v (hub-of hubs j)) i))
       (cases-eq (d (hub-of hubs i) v) (s .none))

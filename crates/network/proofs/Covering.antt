@@ -30,7 +30,7 @@ module _ (s : Scale) (laws : Laws s) (d : ℕ → ℕ → ℕ) (dist : Directed 
     is-a-value = λ u v. dist .is-a-value v u;
     home = dist .home;
     triangle = λ u t v.
-      rw (laws .join-is-commutative (d t u) (d v t) (dist .is-a-value t u) (dist .is-a-value v t)) (dist .triangle v t u);
+        rw (laws .join-is-commutative (d t u) (d v t) (dist .is-a-value t u) (dist .is-a-value v t)) (dist .triangle v t u);
   }
 
   pub join-turned : (u h v : ℕ) → s .join (d u h) (d h v) ≡ s .join (d h v) (d u h)
@@ -46,7 +46,7 @@ module _ (s : Scale) (laws : Laws s) (d : ℕ → ℕ → ℕ) (dist : Directed 
   pub cover-is-reached : (u v h : ℕ) → (d u v ≡ s .none → ⊥) → Covers s d u v h → d h v ≡ s .none → ⊥
   cover-is-reached u v h ne c e =
       let z : s .join (d u h) (d h v) ≡ s .none =
-          ap (s .join (d u h)) e ∙ none-behind-stays-none s laws (d u h) (dist .is-a-value u h) in
+      ap (s .join (d u h)) e ∙ none-behind-stays-none s laws (d u h) (dist .is-a-value u h) in
       ne (none-alone-is-worst s laws (d u v) (dist .is-a-value u v) (rw z at c))
 
   -- what covers the way on from a cover is a cover itself
@@ -57,12 +57,12 @@ module _ (s : Scale) (laws : Laws s) (d : ℕ → ℕ → ℕ) (dist : Directed 
       let bent : ℕ = s .join (d u h) (s .join (d h c) (d c v)) in
       let same : whole ≡ bent = laws .join-is-associative (d u h) (d h c) (d c v) (value u h) (value h c) (value c v) in
       let bent-value : Value s bent =
-          laws .join-is-a-value (d u h) (s .join (d h c) (d c v)) (value u h) (joined-value h c v) in
+      laws .join-is-a-value (d u h) (s .join (d h c) (d c v)) (value u h) (joined-value h c v) in
       let first : NoWorse s (s .join (d u c) (d c v)) whole =
-          laws .join-keeps-the-order (d u c) (s .join (d u h) (d h c)) (d c v) (value u c) (joined-value u h c) (value c v)
-          (dist .triangle u h c) in
+      laws .join-keeps-the-order (d u c) (s .join (d u h) (d h c)) (d c v) (value u c) (joined-value u h c) (value c v)
+      (dist .triangle u h c) in
       let second : NoWorse s bent (s .join (d u h) (d h v)) =
-          join-keeps-the-order-behind s laws (s .join (d h c) (d c v)) (d h v) (d u h) (joined-value h c v) (value h v) (value u h) two in
+      join-keeps-the-order-behind s laws (s .join (d h c) (d c v)) (d h v) (d u h) (joined-value h c v) (value h v) (value u h) two in
       let till-bent : NoWorse s (s .join (d u c) (d c v)) bent = subst (λ x. NoWorse s (s .join (d u c) (d c v)) x) same first in
       laws .order-is-transitive (s .join (d u c) (d c v)) bent (d u v) (joined-value u c v) bent-value (value u v) till-bent
       (laws .order-is-transitive bent (s .join (d u h) (d h v)) (d u v) bent-value (joined-value u h v) (value u v) second one)
@@ -74,9 +74,9 @@ module _ (s : Scale) (laws : Laws s) (d : ℕ → ℕ → ℕ) (dist : Directed 
   first-cover-has-entry hubs u v i ne c before = record {
     reached = cover-is-reached u v (hub-of hubs i) ne c;
     earlier-are-worse = λ j h.
-      ⊎-elim (λ t. t)
-      (λ f. absurd (both-ways (worse-by s d u v (hub-of hubs j)) (cover-of-a-cover u v (hub-of hubs i) (hub-of hubs j) c f) (before j h)))
-      (cases-bool (worse-by s d (hub-of hubs i) v (hub-of hubs j)));
+        ⊎-elim (λ t. t)
+        (λ f. absurd (both-ways (worse-by s d u v (hub-of hubs j)) (cover-of-a-cover u v (hub-of hubs i) (hub-of hubs j) c f) (before j h)))
+        (cases-bool (worse-by s d (hub-of hubs i) v (hub-of hubs j)));
   }
 
 -- a hub that covers u and v, with an entry in the row from u and in the row to v
@@ -100,9 +100,9 @@ module _ (s : Scale) (laws : Laws s) (d : ℕ → ℕ → ℕ) (dist : Directed 
         below = r .1;
         covers = r .2;
         from-u =
-          first-cover-has-entry s laws (turned d) (turned-is-directed s laws d dist) hubs v u (r .0) ne
-          (covers-turned s laws d dist u v (hub-of hubs (r .0)) (r .2))
-          (λ j h. subst (λ x. s .better (d u v) x ≡ true) (join-turned s laws d dist u (hub-of hubs j) v) (r .3 j h));
+            first-cover-has-entry s laws (turned d) (turned-is-directed s laws d dist) hubs v u (r .0) ne
+            (covers-turned s laws d dist u v (hub-of hubs (r .0)) (r .2))
+            (λ j h. subst (λ x. s .better (d u v) x ≡ true) (join-turned s laws d dist u (hub-of hubs j) v) (r .3 j h));
         to-v = first-cover-has-entry s laws d dist hubs u v (r .0) ne (r .2) (r .3);
       })
       (first-failure (λ j. worse-by s d u v (hub-of hubs j)) n)

@@ -46,20 +46,20 @@ module _ (s : Scale) (laws : Laws s) (d : ℕ → ℕ → ℕ) (dist : Directed 
         let q = in-row s d name hubs v (h .source) (left .0) in
         let c : ℕ = hub-of hubs (q .rank) in
         let at-hub : o .worth ≡ s .join (d c v) (value-at s (row s (turned d) name hubs b) (name (q .rank))) =
-            cc (h .worth-is, q .hub-is, q .worth-is) in
+        cc (h .worth-is, q .hub-is, q .worth-is) in
         ⊎-elim
         (λ own.
-          ⊎-elim
-          (λ same. absurd (left .1 (q .hub-is ∙ ap name same ∙ sym (r .hub-is))))
-          (⊎-elim
-            (λ earlier.
-              let way : o .worth ≡ s .join (d b c) (d c v) =
-                  at-hub ∙ ap (s .join (d c v)) (own .1) ∙ sym (join-turned s laws d dist b c v) in
-              subst (λ y. s .better (d b v) y ≡ true) (sym way) (r .has-entry .earlier-are-worse (q .rank) earlier))
-            (λ later. absurd (own-row-ends (r .rank) (q .rank) later (own .0))))
-          (cases-order (q .rank) (r .rank)))
+        ⊎-elim
+        (λ same. absurd (left .1 (q .hub-is ∙ ap name same ∙ sym (r .hub-is))))
+        (⊎-elim
+        (λ earlier.
+        let way : o .worth ≡ s .join (d b c) (d c v) =
+        at-hub ∙ ap (s .join (d c v)) (own .1) ∙ sym (join-turned s laws d dist b c v) in
+        subst (λ y. s .better (d b v) y ≡ true) (sym way) (r .has-entry .earlier-are-worse (q .rank) earlier))
+        (λ later. absurd (own-row-ends (r .rank) (q .rank) later (own .0))))
+        (cases-order (q .rank) (r .rank)))
         (λ z. absurd (h .is-not-none
-          (at-hub ∙ ap (s .join (d c v)) z ∙ none-behind-stays-none s laws (d c v) (dist .is-a-value c v))))
+        (at-hub ∙ ap (s .join (d c v)) z ∙ none-behind-stays-none s laws (d c v) (dist .is-a-value c v))))
         (value-under-name-cases s (turned d) name hubs b rises (q .rank) (q .below))
 
     -- without one of its entries, v's row joined with that entry's hub's own row falls short
@@ -72,9 +72,9 @@ module _ (s : Scale) (laws : Laws s) (d : ℕ → ℕ → ℕ) (dist : Directed 
         let q : List Entry = row s (turned d) name hubs b in
         struck-meeting-falls-short (meet s p q)
         (meets s laws p q
-          (all-kept-by (λ x. not (eqb (x .hub) (e .hub))) (λ x. Value s (x .worth)) (row s d name hubs v)
-            (row-has-values s d name hubs v (dist .is-a-value)))
-          (row-has-values s (turned d) name hubs b (λ x y. dist .is-a-value y x)))
+        (all-kept-by (λ x. not (eqb (x .hub) (e .hub))) (λ x. Value s (x .worth)) (row s d name hubs v)
+        (row-has-values s d name hubs v (dist .is-a-value)))
+        (row-has-values s (turned d) name hubs b (λ x y. dist .is-a-value y x)))
 
   module _ (v i : ℕ) (low : i < length hubs) where
     -- where v has an entry under hub i, each earlier hub with an entry in both rows gives worse
@@ -83,20 +83,20 @@ module _ (s : Scale) (laws : Laws s) (d : ℕ → ℕ → ℕ) (dist : Directed 
         → (value-at s (row s (turned d) name hubs (hub-of hubs i)) (name j) ≡ s .none → ⊥)
         → (value-at s (row s d name hubs v) (name j) ≡ s .none → ⊥)
         → s .better (d (hub-of hubs i) v)
-          (s .join (value-at s (row s (turned d) name hubs (hub-of hubs i)) (name j)) (value-at s (row s d name hubs v) (name j)))
-          ≡ true
+        (s .join (value-at s (row s (turned d) name hubs (hub-of hubs i)) (name j)) (value-at s (row s d name hubs v) (name j)))
+        ≡ true
     shared-earlier-are-worse has j earlier ne-b ne-v =
         let b : ℕ = hub-of hubs i in
         let c : ℕ = hub-of hubs j in
         ⊎-elim
         (λ one. ⊎-elim
-          (λ two.
-            let same : s .join (d b c) (d c v)
-                    ≡ s .join (value-at s (row s (turned d) name hubs b) (name j)) (value-at s (row s d name hubs v) (name j)) =
-                cc (one .1, two .1) in
-            subst (λ y. s .better (d b v) y ≡ true) same (has .earlier-are-worse j earlier))
-          (λ z. absurd (ne-v z))
-          (value-under-name-cases s d name hubs v rises j (omega arith)))
+        (λ two.
+        let same : s .join (d b c) (d c v)
+        ≡ s .join (value-at s (row s (turned d) name hubs b) (name j)) (value-at s (row s d name hubs v) (name j)) =
+        cc (one .1, two .1) in
+        subst (λ y. s .better (d b v) y ≡ true) same (has .earlier-are-worse j earlier))
+        (λ z. absurd (ne-v z))
+        (value-under-name-cases s d name hubs v rises j (omega arith)))
         (λ z. absurd (ne-b z))
         (value-under-name-cases s (turned d) name hubs b rises j (omega arith))
 
@@ -104,18 +104,18 @@ module _ (s : Scale) (laws : Laws s) (d : ℕ → ℕ → ℕ) (dist : Directed 
     pub entry-from-shared :
         (d (hub-of hubs i) v ≡ s .none → ⊥)
         → ((j : ℕ) → j < i
-          → (value-at s (row s (turned d) name hubs (hub-of hubs i)) (name j) ≡ s .none → ⊥)
-          → (value-at s (row s d name hubs v) (name j) ≡ s .none → ⊥)
-          → s .better (d (hub-of hubs i) v)
-            (s .join (value-at s (row s (turned d) name hubs (hub-of hubs i)) (name j)) (value-at s (row s d name hubs v) (name j)))
-            ≡ true)
+        → (value-at s (row s (turned d) name hubs (hub-of hubs i)) (name j) ≡ s .none → ⊥)
+        → (value-at s (row s d name hubs v) (name j) ≡ s .none → ⊥)
+        → s .better (d (hub-of hubs i) v)
+        (s .join (value-at s (row s (turned d) name hubs (hub-of hubs i)) (name j)) (value-at s (row s d name hubs v) (name j)))
+        ≡ true)
         → Has-entry s d hubs v i
     entry-from-shared ne told = record {
       reached = ne;
       earlier-are-worse = λ j earlier.
-        ⊎-elim (λ t. t)
-        (λ f. absurd (at-cover (cover-is-shared s laws d dist hubs i (hub-of hubs i) v j ne earlier f)))
-        (cases-bool (worse-by s d (hub-of hubs i) v (hub-of hubs j)));
+          ⊎-elim (λ t. t)
+          (λ f. absurd (at-cover (cover-is-shared s laws d dist hubs i (hub-of hubs i) v j ne earlier f)))
+          (cases-bool (worse-by s d (hub-of hubs i) v (hub-of hubs j)));
     }
       where
         at-cover : Shared-cover s d hubs i (hub-of hubs i) v → ⊥
@@ -126,7 +126,7 @@ module _ (s : Scale) (laws : Laws s) (d : ℕ → ℕ → ℕ) (dist : Directed 
             let one = value-of-entry s (turned d) name hubs b rises (k .rank) below (k .from-u) in
             let two = value-of-entry s d name hubs v rises (k .rank) below (k .to-v) in
             let same : s .join (value-at s (row s (turned d) name hubs b) (name (k .rank))) (value-at s (row s d name hubs v) (name (k .rank)))
-                    ≡ s .join (d b c) (d c v) = cc (one, two) in
+            ≡ s .join (d b c) (d c v) = cc (one, two) in
             both-ways (s .better (d b v) (s .join (d b c) (d c v))) (k .covers)
             (subst (λ y. s .better (d b v) y ≡ true) same
-              (told (k .rank) (k .below) (λ z. k .from-u .reached (sym one ∙ z)) (λ z. k .to-v .reached (sym two ∙ z))))
+            (told (k .rank) (k .below) (λ z. k .from-u .reached (sym one ∙ z)) (λ z. k .to-v .reached (sym two ∙ z))))

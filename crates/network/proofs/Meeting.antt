@@ -40,11 +40,11 @@ pub in-kept : {X : Type 0} (test : X → Bool) (x : X) (xs : List X) → In x (k
 in-kept test x [] h = absurd h
 in-kept {X} test x (y ∷ ys) within =
     let later : In x (kept-by test ys) → In x (y ∷ ys) × (test x ≡ true) =
-        λ h. let r = in-kept test x ys h in (inr (r .0), r .1) in
+    λ h. let r = in-kept test x ys h in (inr (r .0), r .1) in
     let either : In x (kept-by test (y ∷ ys)) → In x (y ∷ ys) × (test x ≡ true) =
-        cond-both (test y) (y ∷ kept-by test ys) (kept-by test ys) (λ l. In x l → In x (y ∷ ys) × (test x ≡ true))
-        (λ t. ⊎-elim (λ e. (inl e, ap test e ∙ t)) later)
-        (λ f. later) in
+    cond-both (test y) (y ∷ kept-by test ys) (kept-by test ys) (λ l. In x l → In x (y ∷ ys) × (test x ≡ true))
+    (λ t. ⊎-elim (λ e. (inl e, ap test e ∙ t)) later)
+    (λ f. later) in
     either within
 
 pub all-in : {X : Type 0} (P : X → Type 0) (xs : List X) (x : X) → All P xs → In x xs → P x
@@ -74,8 +74,8 @@ module _ (s : Scale) (laws : Laws s) where
   passed-over e p q vp vq z None h = λ x. ⊎-elim (λ same. ap (offered s q) same ∙ z) (h x)
   passed-over e p q vp vq z (Some o) h =
       let vo : Value s (o .worth) =
-          rw (h .worth-is)
-          (offered-is-a-value q vq (h .source) (all-in (λ x. Value s (x .worth)) p (h .source) vp (h .source-is-there))) in
+      rw (h .worth-is)
+      (offered-is-a-value q vq (h .source) (all-in (λ x. Value s (x .worth)) p (h .source) vp (h .source-is-there))) in
       record {
         source = h .source;
         source-is-there = inr (h .source-is-there);
@@ -83,8 +83,8 @@ module _ (s : Scale) (laws : Laws s) where
         worth-is = h .worth-is;
         is-not-none = h .is-not-none;
         none-is-better = λ x. ⊎-elim
-          (λ same. subst (NoWorse s (o .worth)) (sym (ap (offered s q) same ∙ z)) (laws .none-is-worst (o .worth) vo))
-          (h .none-is-better x);
+            (λ same. subst (NoWorse s (o .worth)) (sym (ap (offered s q) same ∙ z)) (laws .none-is-worst (o .worth) vo))
+            (h .none-is-better x);
       }
 
   -- an entry whose offer is not none: it, or the best offer of the others
@@ -100,14 +100,14 @@ module _ (s : Scale) (laws : Laws s) where
         worth-is = refl;
         is-not-none = ne;
         none-is-better = λ x. ⊎-elim
-          (λ same. subst (NoWorse s (offered s q e)) (ap (offered s q) (sym same)) (no-worse-itself s laws (offered s q e) vo))
-          (λ k. subst (NoWorse s (offered s q e)) (sym (h x k)) (laws .none-is-worst (offered s q e) vo));
+            (λ same. subst (NoWorse s (offered s q e)) (ap (offered s q) (sym same)) (no-worse-itself s laws (offered s q e) vo))
+            (λ k. subst (NoWorse s (offered s q e)) (sym (h x k)) (laws .none-is-worst (offered s q e) vo));
       }
   chosen e p q ve vp vq ne (Some o) h =
       let ve-offer = offered-is-a-value q vq e ve in
       let vo : Value s (o .worth) =
-          rw (h .worth-is)
-          (offered-is-a-value q vq (h .source) (all-in (λ x. Value s (x .worth)) p (h .source) vp (h .source-is-there))) in
+      rw (h .worth-is)
+      (offered-is-a-value q vq (h .source) (all-in (λ x. Value s (x .worth)) p (h .source) vp (h .source-is-there))) in
       cond-both (s .better (o .worth) (offered s q e)) o (entry (e .hub) (offered s q e)) (Is-the-best-offer s (e ∷ p) q)
       (λ t. record {
         source = h .source;
@@ -116,9 +116,9 @@ module _ (s : Scale) (laws : Laws s) where
         worth-is = h .worth-is;
         is-not-none = h .is-not-none;
         none-is-better = λ x. ⊎-elim
-          (λ same. subst (NoWorse s (o .worth)) (ap (offered s q) (sym same))
+            (λ same. subst (NoWorse s (o .worth)) (ap (offered s q) (sym same))
             (better-is-no-worse s laws (o .worth) (offered s q e) vo ve-offer t))
-          (h .none-is-better x);
+            (h .none-is-better x);
       })
       (λ t. record {
         source = e;
@@ -127,8 +127,8 @@ module _ (s : Scale) (laws : Laws s) where
         worth-is = refl;
         is-not-none = ne;
         none-is-better = λ x. ⊎-elim
-          (λ same. subst (NoWorse s (offered s q e)) (ap (offered s q) (sym same)) (no-worse-itself s laws (offered s q e) ve-offer))
-          (λ k. laws .order-is-transitive (offered s q e) (o .worth) (offered s q x) ve-offer vo
+            (λ same. subst (NoWorse s (offered s q e)) (ap (offered s q) (sym same)) (no-worse-itself s laws (offered s q e) ve-offer))
+            (λ k. laws .order-is-transitive (offered s q e) (o .worth) (offered s q x) ve-offer vo
             (offered-is-a-value q vq x (all-in (λ y. Value s (y .worth)) p x vp k)) t (h .none-is-better x k));
       })
 

@@ -41,16 +41,18 @@ climbs-kept test (x ∷ xs) c =
 
 pub counted-up : (a k : ℕ) → All (λ x. (a ≤ x) × (x < a + k)) (count-up a k)
 counted-up a zero = tt
-counted-up a (suc k) =
-    ( (omega arith, omega arith)
-    , all-weaker (λ x. (suc a ≤ x) × (x < suc a + k)) (λ x. (a ≤ x) × (x < a + suc k)) (λ x h. (omega arith, omega arith))
-      (count-up (suc a) k) (counted-up (suc a) k))
+counted-up a (suc k) = (
+  (omega arith, omega arith),
+  all-weaker (λ x. (suc a ≤ x) × (x < suc a + k)) (λ x. (a ≤ x) × (x < a + suc k)) (λ x h. (omega arith, omega arith))
+      (count-up (suc a) k) (counted-up (suc a) k),
+)
 
 pub climbs-count-up : (a k : ℕ) → Climbs (count-up a k)
 climbs-count-up a zero = tt
-climbs-count-up a (suc k) =
-    ( all-weaker (λ x. (suc a ≤ x) × (x < suc a + k)) (λ x. a < x) (λ x h. omega arith) (count-up (suc a) k) (counted-up (suc a) k)
-    , climbs-count-up (suc a) k)
+climbs-count-up a (suc k) = (
+  all-weaker (λ x. (suc a ≤ x) × (x < suc a + k)) (λ x. a < x) (λ x h. omega arith) (count-up (suc a) k) (counted-up (suc a) k),
+  climbs-count-up (suc a) k,
+)
 
 pub in-count-up : (a k x : ℕ) → a ≤ x → x < a + k → In x (count-up a k)
 in-count-up a zero x h l = absurd (omega arith)
@@ -76,12 +78,13 @@ module _ (net : Network) (k : ℕ) where
   member-is-inside i low =
       let v : ℕ = getD (members net k) i 0 in
       let numbers = all-weaker (λ x. (1 ≤ x) × (x < 1 + net .junctions)) (Junction net) (λ x h. (omega arith, omega arith))
-          (count-up 1 (net .junctions)) (counted-up 1 (net .junctions)) in
-      ( all-getD (Junction net) (members net k) i 0 low
-        (all-kept-by (λ x. eqb (district net x) k) (Junction net) (count-up 1 (net .junctions)) numbers)
-      , eqb-true (district net v) k
-        (all-getD (λ x. eqb (district net x) k ≡ true) (members net k) i 0 low
-          (kept-by-passes (λ x. eqb (district net x) k) (count-up 1 (net .junctions)))))
+      (count-up 1 (net .junctions)) (counted-up 1 (net .junctions)) in (
+        all-getD (Junction net) (members net k) i 0 low
+            (all-kept-by (λ x. eqb (district net x) k) (Junction net) (count-up 1 (net .junctions)) numbers),
+        eqb-true (district net v) k
+            (all-getD (λ x. eqb (district net x) k ≡ true) (members net k) i 0 low
+            (kept-by-passes (λ x. eqb (district net x) k) (count-up 1 (net .junctions)))),
+      )
 
   -- each junction of the district has a rank among them
   pub rank-of-member :
@@ -89,4 +92,4 @@ module _ (net : Network) (k : ℕ) where
   rank-of-member v j e =
       rank-of v (members net k)
       (in-kept-by (λ x. eqb (district net x) k) v (count-up 1 (net .junctions))
-        (in-count-up 1 (net .junctions) v (omega arith) (omega arith)) (eq-eqb (district net v) k e))
+      (in-count-up 1 (net .junctions) v (omega arith) (omega arith)) (eq-eqb (district net v) k e))

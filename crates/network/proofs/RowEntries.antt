@@ -41,8 +41,8 @@ module _ (s : Scale) (d : ℕ → ℕ → ℕ) (name : ℕ → ℕ) (hubs : List
   entry-in-row i low has =
       let e = cell-with-entry s d hubs v i low has in
       let there : In (entry (name i) (cell-at s d hubs v i)) (collected s name (cell-at s d hubs v) 0 (length hubs)) =
-          rank-has-entry s name (cell-at s d hubs v) 0 (length hubs) i (omega arith) (omega arith)
-          (λ z. has .reached (sym e ∙ z)) in
+      rank-has-entry s name (cell-at s d hubs v) 0 (length hubs) i (omega arith) (omega arith)
+      (λ z. has .reached (sym e ∙ z)) in
       subst (λ x. In (entry (name i) x) (row s d name hubs v)) e
       (subst (In (entry (name i) (cell-at s d hubs v i))) (sym (row-is-collected s d name hubs v)) there)
 
@@ -51,7 +51,7 @@ module _ (s : Scale) (d : ℕ → ℕ → ℕ) (name : ℕ → ℕ) (hubs : List
   row-is-proper value =
       all-from-in (λ e. Proper s (e .worth)) (row s d name hubs v)
       (λ e h. let r = in-row e h in
-        (subst (Value s) (sym (r .worth-is)) (value (hub-of hubs (r .rank)) v), λ z. r .has-entry .reached (sym (r .worth-is) ∙ z)))
+      (subst (Value s) (sym (r .worth-is)) (value (hub-of hubs (r .rank)) v), λ z. r .has-entry .reached (sym (r .worth-is) ∙ z)))
 
   pub row-has-values : ((u w : ℕ) → Value s (d u w)) → All-values s (row s d name hubs v)
   row-has-values value =
@@ -68,7 +68,7 @@ module _ (s : Scale) (d : ℕ → ℕ → ℕ) (name : ℕ → ℕ) (hubs : List
     pub value-under-name-cases :
         (i : ℕ) → i < length hubs
         → (Has-entry s d hubs v i × (value-at s (row s d name hubs v) (name i) ≡ d (hub-of hubs i) v))
-          ⊎ (value-at s (row s d name hubs v) (name i) ≡ s .none)
+        ⊎ (value-at s (row s d name hubs v) (name i) ≡ s .none)
     value-under-name-cases i low =
         ⊎-elim (λ h. inl (h .0, value-under-name i low ∙ h .1)) (λ z. inr (value-under-name i low ∙ z))
         (cell-cases s d hubs v i low)

@@ -48,22 +48,22 @@ module _ (s : Scale) (name f : ℕ → ℕ) where
   in-collected e low (suc n) within =
       let later : List Entry = collected s name f (suc low) n in
       let at-later : In e later → Ranked-entry s name f low (low + suc n) e = λ h.
-          let r = in-collected e (suc low) n h in
-          record { rank = r .rank; not-before = omega arith; below = omega arith; hub-is = r .hub-is; worth-is = r .worth-is; is-not-none = r .is-not-none } in
+      let r = in-collected e (suc low) n h in
+      record { rank = r .rank; not-before = omega arith; below = omega arith; hub-is = r .hub-is; worth-is = r .worth-is; is-not-none = r .is-not-none } in
       let either : In e (put-cell s (name low) (f low) later) → Ranked-entry s name f low (low + suc n) e =
-          cond-both (eqb (f low) (s .none)) later (entry (name low) (f low) ∷ later)
-          (λ es. In e es → Ranked-entry s name f low (low + suc n) e)
-          (λ t. at-later)
-          (λ t. ⊎-elim
-            (λ same. record {
-              rank = low;
-              not-before = omega arith;
-              below = omega arith;
-              hub-is = ap (λ x. x .hub) same;
-              worth-is = ap (λ x. x .worth) same;
-              is-not-none = eqb-false (f low) (s .none) t;
-            })
-            at-later) in
+      cond-both (eqb (f low) (s .none)) later (entry (name low) (f low) ∷ later)
+      (λ es. In e es → Ranked-entry s name f low (low + suc n) e)
+      (λ t. at-later)
+      (λ t. ⊎-elim
+      (λ same. record {
+        rank = low;
+        not-before = omega arith;
+        below = omega arith;
+        hub-is = ap (λ x. x .hub) same;
+        worth-is = ap (λ x. x .worth) same;
+        is-not-none = eqb-false (f low) (s .none) t;
+      })
+      at-later) in
       either within
 
   pub rank-has-entry :
@@ -74,11 +74,11 @@ module _ (s : Scale) (name f : ℕ → ℕ) where
       cond-both (eqb (f low) (s .none)) later (entry (name low) (f low) ∷ later)
       (In (entry (name r) (f r)))
       (λ t. ⊎-elim (λ e. absurd (ne (subst (λ x. f x ≡ s .none) e (eqb-true (f low) (s .none) t))))
-        (λ other. rank-has-entry (suc low) n r (omega arith) (omega arith) ne)
-        (cases-eq low r))
+      (λ other. rank-has-entry (suc low) n r (omega arith) (omega arith) ne)
+      (cases-eq low r))
       (λ t. ⊎-elim (λ e. inl (ap (λ x. entry (name x) (f x)) (sym e)))
-        (λ other. inr (rank-has-entry (suc low) n r (omega arith) (omega arith) ne))
-        (cases-eq low r))
+      (λ other. inr (rank-has-entry (suc low) n r (omega arith) (omega arith) ne))
+      (cases-eq low r))
 
   -- a row has nothing under a name that none of its ranks has
   pub value-under-no-rank :
@@ -87,17 +87,17 @@ module _ (s : Scale) (name f : ℕ → ℕ) where
   value-under-no-rank h low (suc n) other =
       let later : List Entry = collected s name f (suc low) n in
       let at-later : value-at s later h ≡ s .none =
-          value-under-no-rank h (suc low) n (λ r k l. other r (omega arith) (omega arith)) in
+      value-under-no-rank h (suc low) n (λ r k l. other r (omega arith) (omega arith)) in
       cond-both (eqb (f low) (s .none)) later (entry (name low) (f low) ∷ later) (λ es. value-at s es h ≡ s .none)
       (λ t. at-later)
       (λ t. cond-false (eqb (name low) h) (f low) (value-at s later h)
-        (ne-eqb (name low) h (other low (omega arith) (omega arith))) ∙ at-later)
+      (ne-eqb (name low) h (other low (omega arith) (omega arith))) ∙ at-later)
 
   module _ (top : ℕ) (rises : Rises name top) where
     -- names of two ranks differ
     pub names-differ : (i j : ℕ) → i < top → j < top → (i ≡ j → ⊥) → name i ≡ name j → ⊥
     names-differ i j h k ne e =
-        ⊎-elim (λ l. let m = rises i j l k in omega arith) (λ l. let m = rises j i l h in omega arith) 
+        ⊎-elim (λ l. let m = rises i j l k in omega arith) (λ l. let m = rises j i l h in omega arith)
         (⊎-elim (λ e. absurd (ne e)) (λ h. h) (cases-order i j))
 
     -- under a rank's name a row has that rank's value
@@ -107,21 +107,21 @@ module _ (s : Scale) (name f : ℕ → ℕ) where
     value-under-rank low (suc n) r u h k =
         let later : List Entry = collected s name f (suc low) n in
         let here : value-at s (collected s name f low (suc n)) (name low) ≡ f low =
-            cond-both (eqb (f low) (s .none)) later (entry (name low) (f low) ∷ later)
-            (λ es. value-at s es (name low) ≡ f low)
-            (λ t. value-under-no-rank (name low) (suc low) n
-              (λ q l m. names-differ q low (omega arith) (omega arith) (λ e. omega arith))
-              ∙ sym (eqb-true (f low) (s .none) t))
-            (λ t. cond-true (eqb (name low) (name low)) (f low) (value-at s later (name low)) (eq-eqb (name low) (name low) refl)) in
+        cond-both (eqb (f low) (s .none)) later (entry (name low) (f low) ∷ later)
+        (λ es. value-at s es (name low) ≡ f low)
+        (λ t. value-under-no-rank (name low) (suc low) n
+        (λ q l m. names-differ q low (omega arith) (omega arith) (λ e. omega arith))
+        ∙ sym (eqb-true (f low) (s .none) t))
+        (λ t. cond-true (eqb (name low) (name low)) (f low) (value-at s later (name low)) (eq-eqb (name low) (name low) refl)) in
         let there : (low ≡ r → ⊥) → value-at s (collected s name f low (suc n)) (name r) ≡ f r = λ ne.
-            let at-later : value-at s later (name r) ≡ f r =
-                value-under-rank (suc low) n r (omega arith) (omega arith) (omega arith) in
-            cond-both (eqb (f low) (s .none)) later (entry (name low) (f low) ∷ later)
-            (λ es. value-at s es (name r) ≡ f r)
-            (λ t. at-later)
-            (λ t. cond-false (eqb (name low) (name r)) (f low) (value-at s later (name r))
-              (ne-eqb (name low) (name r) (names-differ low r (omega arith) (omega arith) ne))
-              ∙ at-later) in
+        let at-later : value-at s later (name r) ≡ f r =
+        value-under-rank (suc low) n r (omega arith) (omega arith) (omega arith) in
+        cond-both (eqb (f low) (s .none)) later (entry (name low) (f low) ∷ later)
+        (λ es. value-at s es (name r) ≡ f r)
+        (λ t. at-later)
+        (λ t. cond-false (eqb (name low) (name r)) (f low) (value-at s later (name r))
+        (ne-eqb (name low) (name r) (names-differ low r (omega arith) (omega arith) ne))
+        ∙ at-later) in
         ⊎-elim (λ e. subst (λ x. value-at s (collected s name f low (suc n)) (name x) ≡ f x) e here) there (cases-eq low r)
 
     pub collected-ascends : (low n : ℕ) → low + n ≤ top → Ascends (collected s name f low n)
@@ -132,12 +132,12 @@ module _ (s : Scale) (name f : ℕ → ℕ) where
         cond-both (eqb (f low) (s .none)) later (entry (name low) (f low) ∷ later) Ascends
         (λ t. at-later)
         (λ t. ascends-in-front (entry (name low) (f low)) later
-          (all-from-in (λ e. name low < e .hub) later
-            (λ e h. let r = in-collected e (suc low) n h in
-              let l = rises low (r .rank) (omega arith) (omega arith) in
-              let same = r .hub-is in
-              omega arith))
-          at-later)
+        (all-from-in (λ e. name low < e .hub) later
+        (λ e h. let r = in-collected e (suc low) n h in
+        let l = rises low (r .rank) (omega arith) (omega arith) in
+        let same = r .hub-is in
+        omega arith))
+        at-later)
 
 -- the row of v is collected from its cells
 pub row-after-is-collected :
@@ -146,11 +146,11 @@ pub row-after-is-collected :
 row-after-is-collected s d name earlier [] v = refl
 row-after-is-collected s d name earlier (b ∷ bs) v =
     let here : cell-at s d (earlier ++ (b ∷ bs)) v (length earlier) ≡ cell s d earlier b v =
-        rw (take-at earlier (b ∷ bs) (length earlier) refl, getD-at earlier b bs 0 (length earlier) refl) refl in
+    rw (take-at earlier (b ∷ bs) (length earlier) refl, getD-at earlier b bs 0 (length earlier) refl) refl in
     let later = row-after-is-collected s d name (earlier ++ (b ∷ [])) bs v in
     let moved : row-after s d name (earlier ++ (b ∷ [])) bs v
-            ≡ collected s name (cell-at s d (earlier ++ (b ∷ bs)) v) (suc (length earlier)) (length bs) =
-        rw (length-push earlier b, add-one (length earlier), append-assoc earlier (b ∷ []) bs) at later in
+    ≡ collected s name (cell-at s d (earlier ++ (b ∷ bs)) v) (suc (length earlier)) (length bs) =
+    rw (length-push earlier b, add-one (length earlier), append-assoc earlier (b ∷ []) bs) at later in
     rw (here, moved) refl
 
 pub row-is-collected :

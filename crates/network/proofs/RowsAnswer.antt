@@ -43,9 +43,10 @@ pub giving-answers :
     → ((u v : ℕ) → best s net u v ≡ s .none → No-walk net u v)
     → (u v : ℕ) (m : Option Entry) → Gives s (best s net u v) m → Answers s net u v m
 giving-answers s net walks no-walk u v None g = no-walk u v g
-giving-answers s net walks no-walk u v (Some e) g =
-    ( ⊎-elim (λ z. absurd (g .1 z)) (λ w. (w .0, w .1, w .2 ∙ sym (g .0))) (walks .reached u v)
-    , λ y w. rw (g .0, ← w .2) (walks .no-walk-is-better u v (w .0) (w .1)))
+giving-answers s net walks no-walk u v (Some e) g = (
+  ⊎-elim (λ z. absurd (g .1 z)) (λ w. (w .0, w .1, w .2 ∙ sym (g .0))) (walks .reached u v),
+  λ y w. rw (g .0, ← w .2) (walks .no-walk-is-better u v (w .0) (w .1)),
+)
 
 module _ (s : Scale) (laws : Laws s) (net : Network) (order : List ℕ) (dist : Distance s (best s net)) where
   pub border-rows-answer :
@@ -59,20 +60,20 @@ module _ (s : Scale) (laws : Laws s) (net : Network) (order : List ℕ) (dist : 
       covered =
           ⊎-elim inl
           (λ ne.
-            let c = covers u v ju jv apart ne in
-            let r = rank-of (c .0) order (c .1) in
-            inr (r .0, r .1, subst (Covers s (best s net) u v) (sym (r .2)) (c .2)))
+          let c = covers u v ju jv apart ne in
+          let r = rank-of (c .0) order (c .1) in
+          inr (r .0, r .1, subst (Covers s (best s net) u v) (sym (r .2)) (c .2)))
           (cases-eq (best s net u v) (s .none))
 
   pub border-entry-is-needed :
       (v : ℕ) (e : Entry) → In e (border-row s net order v)
       → Falls-short s (best s net (getD order (e .hub) 0) v)
-        (meet s (struck (e .hub) (border-row s net order v)) (border-row s net order (getD order (e .hub) 0)))
+      (meet s (struck (e .hub) (border-row s net order v)) (border-row s net order (getD order (e .hub) 0)))
   border-entry-is-needed v e h =
       let r = in-row s (best s net) (λ i. i) order v e h in
       subst
       (λ i. Falls-short s (best s net (getD order i 0) v)
-        (meet s (struck (e .hub) (border-row s net order v)) (border-row s net order (getD order i 0))))
+      (meet s (struck (e .hub) (border-row s net order v)) (border-row s net order (getD order i 0))))
       (sym (r .hub-is))
       (entry-is-needed s laws (best s net) dist (λ i. i) order (ranks-rise (length order)) v e r)
 
@@ -91,7 +92,7 @@ module _ (s : Scale) (laws : Laws s) (net : Network) (dist : (k : ℕ) → Dista
       let d : ℕ → ℕ → ℕ = district-best s net k in
       let r = rank-of-member net k u ju e in
       let same : s .join (d u u) (d u v) ≡ d u v =
-          ap (λ x. s .join x (d u v)) (dist k .home u) ∙ laws .start-changes-nothing (d u v) (dist k .is-a-value u v) in
+      ap (λ x. s .join x (d u v)) (dist k .home u) ∙ laws .start-changes-nothing (d u v) (dist k .is-a-value u v) in
       inr (r .0, r .1, subst (Covers s d u v) (sym (r .2)) (equal-is-no-worse s laws (s .join (d u u) (d u v)) (d u v) (dist k .is-a-value u v) same))
 
   pub district-rows-joined :
@@ -102,9 +103,9 @@ module _ (s : Scale) (laws : Laws s) (net : Network) (dist : (k : ℕ) → Dista
       let k : ℕ = district net v in
       giving-answers s net walks no-walk u v (meet s (district-row s net u) (district-row s net v))
       (subst (λ x. Gives s x (meet s (district-row s net u) (district-row s net v))) (agrees k u v ju jv e refl)
-        (subst (λ p. Gives s (district-best s net k u v) (meet s p (district-row s net v))) (sym (district-row-at s net k u e))
-          (two-rows-give s laws (district-best s net k) (dist k) (λ i. getD (members net k) i 0) (members net k) (members-rise net k) u v
-            (junction-covers k u v ju e))))
+      (subst (λ p. Gives s (district-best s net k u v) (meet s p (district-row s net v))) (sym (district-row-at s net k u e))
+      (two-rows-give s laws (district-best s net k) (dist k) (λ i. getD (members net k) i 0) (members net k) (members-rise net k) u v
+      (junction-covers k u v ju e))))
 
   pub district-entry-is-needed :
       (v : ℕ) (e : Entry) → Junction net v → In e (district-row s net v)
@@ -116,11 +117,11 @@ module _ (s : Scale) (laws : Laws s) (net : Network) (dist : (k : ℕ) → Dista
       let inside = member-is-inside net k (r .rank) (r .below) in
       let falls = entry-is-needed s laws (district-best s net k) (dist k) (λ i. getD (members net k) i 0) (members net k) (members-rise net k) v e r in
       let with-row : Falls-short s (district-best s net k b v) (meet s (struck (e .hub) (district-row s net v)) (district-row s net b)) =
-          subst (λ q. Falls-short s (district-best s net k b v) (meet s (struck (e .hub) (district-row s net v)) q))
-          (sym (district-row-at s net k b (inside .1))) falls in
+      subst (λ q. Falls-short s (district-best s net k b v) (meet s (struck (e .hub) (district-row s net v)) q))
+      (sym (district-row-at s net k b (inside .1))) falls in
       let with-best : Falls-short s (best s net b v) (meet s (struck (e .hub) (district-row s net v)) (district-row s net b)) =
-          subst (λ x. Falls-short s x (meet s (struck (e .hub) (district-row s net v)) (district-row s net b)))
-          (agrees k b v (inside .0) jv (inside .1) refl) with-row in
+      subst (λ x. Falls-short s x (meet s (struck (e .hub) (district-row s net v)) (district-row s net b)))
+      (agrees k b v (inside .0) jv (inside .1) refl) with-row in
       subst (λ c. Falls-short s (best s net c v) (meet s (struck (e .hub) (district-row s net v)) (district-row s net c)))
       (sym (r .hub-is)) with-best
 
@@ -135,30 +136,30 @@ module _ (s : Scale) (laws : Laws s) (net : Network) (order : List ℕ) (dist : 
   pub cells-follow-from-entries : Cells-follow-from-entries s net order
   cells-follow-from-entries = record {
     for-border-cells = λ i v low j.
-      looking-up-is-enough s laws (best s net) dist (λ r. r) order (ranks-rise (length order)) (border-row s net order) i v low refl refl;
+        looking-up-is-enough s laws (best s net) dist (λ r. r) order (ranks-rise (length order)) (border-row s net order) i v low refl refl;
     for-district-cells = λ i k v low j e.
-      looking-up-is-enough s laws (district-best s net k) (district-dist k) (λ r. getD (members net k) r 0) (members net k)
-      (members-rise net k) (district-row s net) i v low
-      (district-row-at s net k (getD (members net k) i 0) (member-is-inside net k i low .1)) (district-row-at s net k v e);
+        looking-up-is-enough s laws (district-best s net k) (district-dist k) (λ r. getD (members net k) r 0) (members net k)
+        (members-rise net k) (district-row s net) i v low
+        (district-row-at s net k (getD (members net k) i 0) (member-is-inside net k i low .1)) (district-row-at s net k v e);
   }
 
   pub rows-ascend : Rows-ascend s net order
   rows-ascend = record {
     border-ranks-ascend = λ v. row-ascends s (best s net) (λ i. i) order v (ranks-rise (length order));
     border-ranks-are-below = λ v.
-      all-from-in (λ e. e .hub < length order) (border-row s net order v)
-      (λ e h. let r = in-row s (best s net) (λ i. i) order v e h in
+        all-from-in (λ e. e .hub < length order) (border-row s net order v)
+        (λ e h. let r = in-row s (best s net) (λ i. i) order v e h in
         subst (λ x. x < length order) (sym (r .hub-is)) (r .below));
     border-values-are-proper = λ v. row-is-proper s (best s net) (λ i. i) order v (dist .is-a-value);
     district-hubs-ascend = λ v.
-      let k : ℕ = district net v in
-      row-ascends s (district-best s net k) (λ i. getD (members net k) i 0) (members net k) v (members-rise net k);
+        let k : ℕ = district net v in
+        row-ascends s (district-best s net k) (λ i. getD (members net k) i 0) (members net k) v (members-rise net k);
     district-hubs-are-members = λ v.
-      let k : ℕ = district net v in
-      all-from-in (λ e. Junction net (e .hub) × (district net (e .hub) ≡ k)) (district-row s net v)
-      (λ e h. let r = in-row s (district-best s net k) (λ i. getD (members net k) i 0) (members net k) v e h in
+        let k : ℕ = district net v in
+        all-from-in (λ e. Junction net (e .hub) × (district net (e .hub) ≡ k)) (district-row s net v)
+        (λ e h. let r = in-row s (district-best s net k) (λ i. getD (members net k) i 0) (members net k) v e h in
         subst (λ x. Junction net x × (district net x ≡ k)) (sym (r .hub-is)) (member-is-inside net k (r .rank) (r .below)));
     district-values-are-proper = λ v.
-      let k : ℕ = district net v in
-      row-is-proper s (district-best s net k) (λ i. getD (members net k) i 0) (members net k) v (district-dist k .is-a-value);
+        let k : ℕ = district net v in
+        row-is-proper s (district-best s net k) (λ i. getD (members net k) i 0) (members net k) v (district-dist k .is-a-value);
   }

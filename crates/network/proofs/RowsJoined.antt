@@ -1,4 +1,4 @@
--- Rows over any distance: joined they give it, every entry is needed, and looking up is enough. Assumes nothing.
+-- Two rows joined give the distance, where a hub covers the two junctions, one-way streets included. Assumes nothing.
 use mathlib.Core.Path.{_≡_, refl, sym, _∙_, ap, subst}
 use mathlib.Core.List.{List}
 use mathlib.Core.Logic.{_⊎_, inl, inr, ⊎-elim, _↔_}
@@ -23,12 +23,12 @@ abbrev pub Gives : Scale → ℕ → Option Entry → Type 0
 Gives s x None = x ≡ s .none
 Gives s x (Some e) = (e .worth ≡ x) × (x ≡ s .none → ⊥)
 
--- x is none, or one of the hubs covers u and v
+-- d has none for u and v, or one of the hubs covers them
 abbrev pub None-or-covered : Scale → (ℕ → ℕ → ℕ) → List ℕ → ℕ → ℕ → Type 0
 None-or-covered s d hubs u v =
     (d u v ≡ s .none) ⊎ ((i : ℕ) × (i < length hubs) × Covers s d u v (hub-of hubs i))
 
--- hub number i stands in the row from u and in the row to v, and an entry's offer is the way by it
+-- a hub stands in the row from u and in the row to v, and what an entry offers, x, is the way by it
 pub record Shared-offer (s : Scale) (d : ℕ → ℕ → ℕ) (name : ℕ → ℕ) (hubs : List ℕ) (u v : ℕ) (e : Entry) (x : ℕ) : Type 0 where
   pub rank : ℕ
   pub below : rank < length hubs
@@ -50,12 +50,12 @@ module _ (s : Scale) (laws : Laws s) (d : ℕ → ℕ → ℕ) (dist : Directed 
   pub offer-cases :
       (e : Entry) → In e (row s (turned d) name hubs u)
       → (offered s (row s d name hubs v) e ≡ s .none)
-        ⊎ Shared-offer s d name hubs u v e (offered s (row s d name hubs v) e)
+      ⊎ Shared-offer s d name hubs u v e (offered s (row s d name hubs v) e)
   offer-cases e there =
       let r = in-row s (turned d) name hubs u e there in
       let h : ℕ = hub-of hubs (r .rank) in
       let at-hub : offered s (row s d name hubs v) e ≡ s .join (d u h) (value-at s (row s d name hubs v) (name (r .rank))) =
-          cc (r .hub-is, r .worth-is) in
+      cc (r .hub-is, r .worth-is) in
       ⊎-elim
       (λ c. inr (record {
         rank = r .rank;
@@ -72,20 +72,21 @@ module _ (s : Scale) (laws : Laws s) (d : ℕ → ℕ → ℕ) (dist : Directed 
   pub cover-is-offered :
       (d u v ≡ s .none → ⊥) → (i : ℕ) × (i < length hubs) × Covers s d u v (hub-of hubs i)
       → (e : Entry) × In e (row s (turned d) name hubs u) × Value s (offered s (row s d name hubs v) e)
-        × NoWorse s (offered s (row s d name hubs v) e) (d u v)
+      × NoWorse s (offered s (row s d name hubs v) e) (d u v)
   cover-is-offered ne c = at-cover (cover-is-shared s laws d dist hubs (length hubs) u v (c .0) ne (c .1) (c .2))
     where
       at-cover :
           Shared-cover s d hubs (length hubs) u v
           → (e : Entry) × In e (row s (turned d) name hubs u) × Value s (offered s (row s d name hubs v) e)
-            × NoWorse s (offered s (row s d name hubs v) e) (d u v)
+          × NoWorse s (offered s (row s d name hubs v) e) (d u v)
       at-cover k =
           let b : ℕ = hub-of hubs (k .rank) in
-          let same = ap (s .join (d u b)) (value-of-entry s d name hubs v rises (k .rank) (k .below) (k .to-v)) in
-          ( entry (name (k .rank)) (d u b)
-          , entry-in-row s (turned d) name hubs u (k .rank) (k .below) (k .from-u)
-          , subst (Value s) (sym same) (joined-value s laws d dist u b v)
-          , subst (λ x. NoWorse s x (d u v)) (sym same) (k .covers))
+          let same = ap (s .join (d u b)) (value-of-entry s d name hubs v rises (k .rank) (k .below) (k .to-v)) in (
+            entry (name (k .rank)) (d u b),
+            entry-in-row s (turned d) name hubs u (k .rank) (k .below) (k .from-u),
+            subst (Value s) (sym same) (joined-value s laws d dist u b v),
+            subst (λ x. NoWorse s x (d u v)) (sym same) (k .covers),
+          )
 
   meeting-gives :
       None-or-covered s d hubs u v → (m : Option Entry) → Meets s (row s (turned d) name hubs u) (row s d name hubs v) m
@@ -93,30 +94,30 @@ module _ (s : Scale) (laws : Laws s) (d : ℕ → ℕ → ℕ) (dist : Directed 
   meeting-gives covered None h =
       ⊎-elim (λ z. z)
       (λ c. ⊎-elim (λ z. z)
-        (λ ne.
-          let k = cover-is-offered ne c in
-          none-alone-is-worst s laws (d u v) (dist .is-a-value u v)
-          (subst (λ x. NoWorse s x (d u v)) (h (k .0) (k .1)) (k .3)))
-        (cases-eq (d u v) (s .none)))
+      (λ ne.
+      let k = cover-is-offered ne c in
+      none-alone-is-worst s laws (d u v) (dist .is-a-value u v)
+      (subst (λ x. NoWorse s x (d u v)) (h (k .0) (k .1)) (k .3)))
+      (cases-eq (d u v) (s .none)))
       covered
   meeting-gives covered (Some o) h =
       ⊎-elim
       (λ z. absurd (h .is-not-none (h .worth-is ∙ z)))
       (λ c.
-        let b : ℕ = hub-of hubs (c .rank) in
-        let e : o .worth ≡ s .join (d u b) (d b v) = h .worth-is ∙ c .offer-is in
-        let value : Value s (o .worth) = subst (Value s) (sym e) (joined-value s laws d dist u b v) in
-        let not-better : NoWorse s (d u v) (o .worth) = subst (NoWorse s (d u v)) (sym e) (dist .triangle u b v) in
-        let ne : d u v ≡ s .none → ⊥ = λ z.
-            h .is-not-none (none-alone-is-worst s laws (o .worth) value (subst (λ x. NoWorse s x (o .worth)) z not-better)) in
-        ⊎-elim (λ z. absurd (ne z))
-        (λ a.
-          let k = cover-is-offered ne a in
-          let no-worse : NoWorse s (o .worth) (d u v) =
-              laws .order-is-transitive (o .worth) (offered s (row s d name hubs v) (k .0)) (d u v) value (k .2)
-              (dist .is-a-value u v) (h .none-is-better (k .0) (k .1)) (k .3) in
-          (laws .no-worse-both-ways-is-equal (o .worth) (d u v) value (dist .is-a-value u v) no-worse not-better, ne))
-        covered)
+      let b : ℕ = hub-of hubs (c .rank) in
+      let e : o .worth ≡ s .join (d u b) (d b v) = h .worth-is ∙ c .offer-is in
+      let value : Value s (o .worth) = subst (Value s) (sym e) (joined-value s laws d dist u b v) in
+      let not-better : NoWorse s (d u v) (o .worth) = subst (NoWorse s (d u v)) (sym e) (dist .triangle u b v) in
+      let ne : d u v ≡ s .none → ⊥ = λ z.
+      h .is-not-none (none-alone-is-worst s laws (o .worth) value (subst (λ x. NoWorse s x (o .worth)) z not-better)) in
+      ⊎-elim (λ z. absurd (ne z))
+      (λ a.
+      let k = cover-is-offered ne a in
+      let no-worse : NoWorse s (o .worth) (d u v) =
+      laws .order-is-transitive (o .worth) (offered s (row s d name hubs v) (k .0)) (d u v) value (k .2)
+      (dist .is-a-value u v) (h .none-is-better (k .0) (k .1)) (k .3) in
+      (laws .no-worse-both-ways-is-equal (o .worth) (d u v) value (dist .is-a-value u v) no-worse not-better, ne))
+      covered)
       (offer-cases (h .source) (h .source-is-there))
 
   -- where a hub covers u and v, or d has none for them, their rows joined give d

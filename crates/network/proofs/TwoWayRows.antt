@@ -43,7 +43,7 @@ module _ (s : Scale) (laws : Laws s) (d : ℕ → ℕ → ℕ) (dist : Distance 
   pub entry-is-needed :
       (v : ℕ) (e : Entry) (r : Row-entry s d name hubs v e)
       → Falls-short s (d (hub-of hubs (r .rank)) v)
-        (meet s (struck (e .hub) (row s d name hubs v)) (row s d name hubs (hub-of hubs (r .rank))))
+      (meet s (struck (e .hub) (row s d name hubs v)) (row s d name hubs (hub-of hubs (r .rank))))
   entry-is-needed v e r =
       subst (λ q. Falls-short s (d (hub-of hubs (r .rank)) v) (meet s (struck (e .hub) (row s d name hubs v)) q))
       (row-turned (hub-of hubs (r .rank)))
@@ -58,16 +58,16 @@ module _ (s : Scale) (laws : Laws s) (d : ℕ → ℕ → ℕ) (dist : Distance 
       let from-b : rows b ≡ row s (turned d) name hubs b = of-b ∙ sym (row-turned b) in
       record {
         entries-are-told = λ ne.
-          let has = cell-not-none-has s d hubs v i low ne .0 in
-          record {
-            reached = has .reached;
-            earlier-are-worse =
-              rw (from-b, of-v) (shared-earlier-are-worse s laws d (directed s d dist) name hubs rises v i low has);
-          };
+            let has = cell-not-none-has s d hubs v i low ne .0 in
+            record {
+              reached = has .reached;
+              earlier-are-worse =
+                  rw (from-b, of-v) (shared-earlier-are-worse s laws d (directed s d dist) name hubs rises v i low has);
+            };
         told-are-entries = λ told.
-          let has : Has-entry s d hubs v i =
-              entry-from-shared s laws d (directed s d dist) name hubs rises v i low (told .reached)
-              (rw (from-b, of-v) at (told .earlier-are-worse)) in
-          let same = cell-with-entry s d hubs v i low has in
-          (same, λ z. has .reached (sym same ∙ z));
+            let has : Has-entry s d hubs v i =
+            entry-from-shared s laws d (directed s d dist) name hubs rises v i low (told .reached)
+            (rw (from-b, of-v) at (told .earlier-are-worse)) in
+            let same = cell-with-entry s d hubs v i low has in
+            (same, λ z. has .reached (sym same ∙ z));
       }
