@@ -1,4 +1,5 @@
 pub mod Distance
+pub mod InLists
 pub mod LabelOrder
 pub mod Cells
 pub mod Covering

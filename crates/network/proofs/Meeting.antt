@@ -1,17 +1,18 @@
 -- What two rows joined give: the best of what their common hubs offer. Assumes nothing.
 use mathlib.Core.Path.{_≡_, refl, sym, _∙_, ap, subst}
-use mathlib.Core.Bool.{Bool, true, not}
+use mathlib.Core.Bool.{not}
 use mathlib.Core.List.{List, [], _∷_}
 use mathlib.Core.Logic.{inl, inr, ⊎-elim}
 use Prim.Native.Nat.{ℕ}
 use lib.Dec.{eqb}
 use Rattle.std.specs.declared.option.Option.{Option}
 use Rattle.std.specs.declared.option.Option.the-variants.{Some, None}
-use Rattle.std.specs.shelf.Lists.{All, kept-by}
+use Rattle.std.specs.shelf.Lists.{All}
 use Rattle.std.proofs.shelf.Tests.{eqb-true, eqb-false, not-true, cond-both}
 use Rattle.measure.specs.Scale.{Scale, Value, Laws, NoWorse}
 use Rattle.network.specs.Lists.{In}
 use Rattle.network.specs.Labels.{Entry, entry, value-at, offers, better-offer, best-offer, meet, struck}
+use Rattle.network.proofs.InLists.{all-in, kept-was-in}
 use Rattle.network.proofs.LabelOrder.{no-worse-itself, better-is-no-worse}
 
 -- what an entry offers together with the other row: the joined value, which is none where that row has nothing under its hub
@@ -35,26 +36,10 @@ abbrev pub Meets : Scale → List Entry → List Entry → Option Entry → Type
 Meets s p q None = (e : Entry) → In e p → offered s q e ≡ s .none
 Meets s p q (Some o) = Is-the-best-offer s p q o
 
--- what is kept was there, and passed
-pub in-kept : {X : Type 0} (test : X → Bool) (x : X) (xs : List X) → In x (kept-by test xs) → In x xs × (test x ≡ true)
-in-kept test x [] h = absurd h
-in-kept {X} test x (y ∷ ys) within =
-    let later : In x (kept-by test ys) → In x (y ∷ ys) × (test x ≡ true) =
-    λ h. let r = in-kept test x ys h in (inr (r .0), r .1) in
-    let either : In x (kept-by test (y ∷ ys)) → In x (y ∷ ys) × (test x ≡ true) =
-    cond-both (test y) (y ∷ kept-by test ys) (kept-by test ys) (λ l. In x l → In x (y ∷ ys) × (test x ≡ true))
-    (λ t. ⊎-elim (λ e. (inl e, ap test e ∙ t)) later)
-    (λ f. later) in
-    either within
-
-pub all-in : {X : Type 0} (P : X → Type 0) (xs : List X) (x : X) → All P xs → In x xs → P x
-all-in P [] x all h = absurd h
-all-in P (y ∷ ys) x all h = ⊎-elim (λ e. subst P (sym e) (all .0)) (λ k. all-in P ys x (all .1) k) h
-
 -- an entry that is left when a hub is struck out is of the row, and has another hub
 pub in-struck : (h : ℕ) (e : Entry) (p : List Entry) → In e (struck h p) → In e p × (e .hub ≡ h → ⊥)
 in-struck h e p within =
-    let r = in-kept (λ x. not (eqb (x .hub) h)) e p within in
+    let r = kept-was-in (λ x. not (eqb (x .hub) h)) e p within in
     (r .0, eqb-false (e .hub) h (not-true (eqb (e .hub) h) (r .1)))
 
 module _ (s : Scale) (laws : Laws s) where

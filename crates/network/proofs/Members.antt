@@ -1,5 +1,5 @@
 -- The junctions of a district as a list: they ascend, and all of them stand in it. Assumes nothing.
-use mathlib.Core.Path.{_≡_, sym, subst}
+use mathlib.Core.Path.{_≡_}
 use mathlib.Core.Bool.{Bool, true}
 use mathlib.Core.List.{List, [], _∷_}
 use mathlib.Core.Logic.{inl, inr, ⊎-elim}
@@ -8,23 +8,18 @@ use native.Mathlib.Omega.{arith}
 use lib.Dec.{eqb}
 use lib.ListN.{length, getD}
 use Rattle.std.specs.shelf.Lists.{All, kept-by}
-use Rattle.std.proofs.shelf.Tests.{cases-eq, eqb-true, eq-eqb, both-ways, cond-both}
+use Rattle.std.proofs.shelf.Tests.{cases-eq, eqb-true, eq-eqb, cond-both}
 use Rattle.std.proofs.shelf.Elements.{all-getD, all-weaker, all-kept-by, kept-by-passes}
 use Rattle.network.specs.Lists.{In, count-up}
 use Rattle.network.specs.Networks.{Network, Junction, district}
 use Rattle.network.specs.Rows.{members}
+use Rattle.network.proofs.InLists.{rank-of, passing-is-kept}
 use Rattle.network.proofs.RowRanks.{Rises}
 
 -- each number is below all that follow it
 abbrev pub Climbs : List ℕ → Type 0
 Climbs [] = Unit {0}
 Climbs (x ∷ xs) = All (λ y. x < y) xs × Climbs xs
-
--- what stands in a list has a rank
-pub rank-of : (x : ℕ) (xs : List ℕ) → In x xs → (i : ℕ) × (i < length xs) × (getD xs i 0 ≡ x)
-rank-of x [] h = absurd h
-rank-of x (y ∷ ys) h =
-    ⊎-elim (λ e. (0, omega arith, sym e)) (λ k. let r = rank-of x ys k in (suc (r .0), omega arith, r .2)) h
 
 pub climbs-rises : (xs : List ℕ) → Climbs xs → Rises (λ i. getD xs i 0) (length xs)
 climbs-rises [] c i j h k = absurd (omega arith)
@@ -59,13 +54,6 @@ in-count-up a zero x h l = absurd (omega arith)
 in-count-up a (suc k) x h l =
     ⊎-elim inl (λ ne. inr (in-count-up (suc a) k x (omega arith) (omega arith))) (cases-eq x a)
 
-pub in-kept-by : (test : ℕ → Bool) (x : ℕ) (xs : List ℕ) → In x xs → test x ≡ true → In x (kept-by test xs)
-in-kept-by test x [] h t = absurd h
-in-kept-by test x (y ∷ ys) h t =
-    cond-both (test y) (y ∷ kept-by test ys) (kept-by test ys) (In x)
-    (λ u. ⊎-elim inl (λ k. inr (in-kept-by test x ys k t)) h)
-    (λ f. ⊎-elim (λ e. absurd (both-ways (test y) f (subst (λ z. test z ≡ true) e t))) (λ k. in-kept-by test x ys k t) h)
-
 module _ (net : Network) (k : ℕ) where
   pub members-rise : Rises (λ i. getD (members net k) i 0) (length (members net k))
   members-rise =
@@ -90,6 +78,6 @@ module _ (net : Network) (k : ℕ) where
   pub rank-of-member :
       (v : ℕ) → Junction net v → district net v ≡ k → (i : ℕ) × (i < length (members net k)) × (getD (members net k) i 0 ≡ v)
   rank-of-member v j e =
-      rank-of v (members net k)
-      (in-kept-by (λ x. eqb (district net x) k) v (count-up 1 (net .junctions))
+      rank-of 0 v (members net k)
+      (passing-is-kept (λ x. eqb (district net x) k) v (count-up 1 (net .junctions))
       (in-count-up 1 (net .junctions) v (omega arith) (omega arith)) (eq-eqb (district net v) k e))

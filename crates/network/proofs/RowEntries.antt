@@ -6,12 +6,14 @@ use Prim.Native.Nat.{ℕ, _<_}
 use native.Mathlib.Omega.{arith}
 use lib.ListN.{length}
 use Rattle.std.specs.shelf.Lists.{All}
+use Rattle.std.proofs.shelf.Elements.{all-weaker}
 use Rattle.measure.specs.Scale.{Scale, Value}
 use Rattle.network.specs.Lists.{In}
 use Rattle.network.specs.Labels.{Entry, entry, row, value-at, Ascends}
 use Rattle.network.specs.Theorems.{Proper}
+use Rattle.network.proofs.InLists.{all-from-in}
 use Rattle.network.proofs.Cells.{hub-of, cell-at, Has-entry, cell-with-entry, cell-cases, cell-not-none-has}
-use Rattle.network.proofs.RowRanks.{collected, Rises, all-from-in, in-collected, rank-has-entry, value-under-rank, collected-ascends, row-is-collected}
+use Rattle.network.proofs.RowRanks.{collected, Rises, in-collected, rank-has-entry, value-under-rank, collected-ascends, row-is-collected}
 use Rattle.network.proofs.Meeting.{All-values}
 
 -- what an entry of v's row is: under the name of a rank, with the value from that rank's hub
@@ -55,8 +57,7 @@ module _ (s : Scale) (d : ℕ → ℕ → ℕ) (name : ℕ → ℕ) (hubs : List
 
   pub row-has-values : ((u w : ℕ) → Value s (d u w)) → All-values s (row s d name hubs v)
   row-has-values value =
-      all-from-in (λ e. Value s (e .worth)) (row s d name hubs v)
-      (λ e h. let r = in-row e h in subst (Value s) (sym (r .worth-is)) (value (hub-of hubs (r .rank)) v))
+      all-weaker (λ e. Proper s (e .worth)) (λ e. Value s (e .worth)) (λ e p. p .0) (row s d name hubs v) (row-is-proper value)
 
   module _ (rises : Rises name (length hubs)) where
     pub value-under-name : (i : ℕ) → i < length hubs → value-at s (row s d name hubs v) (name i) ≡ cell-at s d hubs v i

@@ -13,6 +13,7 @@ use Rattle.std.proofs.shelf.Tests.{cases-eq, cases-order, eqb-true, eqb-false, 
 use Rattle.measure.specs.Scale.{Scale}
 use Rattle.network.specs.Lists.{In}
 use Rattle.network.specs.Labels.{Entry, entry, cell, put-cell, row-after, row, value-at, Ascends}
+use Rattle.network.proofs.InLists.{all-from-in}
 use Rattle.network.proofs.Cells.{cell-at}
 
 -- the entries that the values f give for n ranks from `low` on
@@ -23,10 +24,6 @@ collected s name f low (suc n) = put-cell s (name low) (f low) (collected s name
 -- names that rise strictly with the rank, as far as there are hubs
 abbrev pub Rises : (ℕ → ℕ) → ℕ → Type 0
 Rises name n = (i j : ℕ) → i < j → j < n → name i < name j
-
-pub all-from-in : {X : Type 0} (P : X → Type 0) (xs : List X) → ((x : X) → In x xs → P x) → All P xs
-all-from-in P [] h = tt
-all-from-in P (x ∷ xs) h = (h x (inl refl), all-from-in P xs (λ y k. h y (inr k)))
 
 -- an entry in front of a row with greater hubs
 pub ascends-in-front : (e : Entry) (es : List Entry) → All (λ f. e .hub < f .hub) es → Ascends es → Ascends (e ∷ es)

@@ -14,13 +14,14 @@ use Rattle.network.specs.Labels.{Entry, row, meet, struck}
 use Rattle.network.specs.Rows.{border-row, district-best, members, district-row}
 use Rattle.network.specs.Theorems.{No-walk, Answers, Border-rows-answer, Falls-short, Every-entry-is-needed, Cells-follow-from-entries, Rows-ascend}
 use Rattle.network.proofs.Distance.{Distance, Walk-distance}
+use Rattle.network.proofs.InLists.{all-from-in, rank-of}
 use Rattle.network.proofs.LabelOrder.{equal-is-no-worse}
 use Rattle.network.proofs.Cells.{Covers}
-use Rattle.network.proofs.RowRanks.{Rises, all-from-in}
+use Rattle.network.proofs.RowRanks.{Rises}
 use Rattle.network.proofs.RowEntries.{in-row, row-is-proper, row-ascends}
 use Rattle.network.proofs.RowsJoined.{Gives, None-or-covered}
 use Rattle.network.proofs.TwoWayRows.{two-rows-give, entry-is-needed, looking-up-is-enough}
-use Rattle.network.proofs.Members.{rank-of, members-rise, member-is-inside, rank-of-member}
+use Rattle.network.proofs.Members.{members-rise, member-is-inside, rank-of-member}
 
 -- best values between junctions of two districts go by a junction of the order
 abbrev pub Order-covers : Scale → Network → List ℕ → Type 0
@@ -61,7 +62,7 @@ module _ (s : Scale) (laws : Laws s) (net : Network) (order : List ℕ) (dist : 
           ⊎-elim inl
           (λ ne.
           let c = covers u v ju jv apart ne in
-          let r = rank-of (c .0) order (c .1) in
+          let r = rank-of 0 (c .0) order (c .1) in
           inr (r .0, r .1, subst (Covers s (best s net) u v) (sym (r .2)) (c .2)))
           (cases-eq (best s net u v) (s .none))
 
