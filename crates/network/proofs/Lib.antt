@@ -14,3 +14,13 @@ pub mod Crossing
 pub mod DistrictBest
 pub mod Offers
 pub mod Districts
+pub mod Cells
+pub mod Covering
+pub mod RowRanks
+pub mod Meeting
+pub mod RowEntries
+pub mod RowsJoined
+pub mod EntriesNeeded
+pub mod TwoWayRows
+pub mod Members
+pub mod RowsAnswer

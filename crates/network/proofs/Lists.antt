@@ -1,4 +1,4 @@
--- Membership of lists: of two lists in a row, of what a test keeps, of numbers counted up. Assumes nothing.
+-- Membership of lists: by rank, of two lists in a row, of what a test keeps, of numbers counted up. Assumes nothing.
 use mathlib.Core.Path.{_≡_, refl, sym, ap, subst}
 use mathlib.Core.Bool.{Bool, true, false, not}
 use mathlib.Core.List.{List, [], _∷_, _++_}
@@ -6,7 +6,7 @@ use mathlib.Core.Logic.{_⊎_, inl, inr, ⊎-elim}
 use Prim.Native.Nat.{ℕ, zero, suc, _+_, _≤_, _<_}
 use native.Mathlib.Omega.{arith}
 use lib.Dec.{eqb}
-use lib.ListN.{length}
+use lib.ListN.{length, getD}
 use Rattle.std.specs.shelf.Lists.{All, kept-by}
 use Rattle.std.proofs.shelf.Tests.{cases-eq, cases-bool, cond-both, eq-eqb, ne-eqb, not-from-true, not-from-false}
 use Rattle.std.proofs.shelf.Elements.{all-kept-by, kept-by-passes}
@@ -37,6 +37,17 @@ module _ {A : Type 0} where
   pub all-from-in : (P : A → Type 0) (xs : List A) → ((x : A) → In x xs → P x) → All P xs
   all-from-in P [] h = tt
   all-from-in P (x ∷ xs) h = (h x (inl refl), all-from-in P xs (λ y i. h y (inr i)))
+
+  -- what stands in a list has a rank
+  pub rank-of : (d x : A) (xs : List A) → In x xs → (i : ℕ) × (i < length xs) × (getD xs i d ≡ x)
+  rank-of d x [] i = absurd i
+  rank-of d x (y ∷ xs) (inl e) = (0, omega arith, sym e)
+  rank-of d x (y ∷ xs) (inr i) = let r = rank-of d x xs i in (suc (r .0), omega arith, r .2)
+
+  pub getD-in : (d : A) (xs : List A) (i : ℕ) → i < length xs → In (getD xs i d) xs
+  getD-in d [] i h = absurd (omega arith)
+  getD-in d (x ∷ xs) zero h = inl refl
+  getD-in d (x ∷ xs) (suc i) h = inr (getD-in d xs i (omega arith))
 
   -- what is in a list and passes the test is kept
   pub in-kept-by : (p : A → Bool) (x : A) (xs : List A) → p x ≡ true → In x xs → In x (kept-by p xs)

@@ -1,8 +1,9 @@
 -- The order of a measure's values, and what joining does to it. Assumes nothing.
 use mathlib.Core.Path.{_≡_, refl, _∙_, subst}
+use mathlib.Core.Bool.{true}
 use mathlib.Core.Logic.{_⊎_, inl, inr, ⊎-elim}
 use Prim.Native.Nat.{ℕ}
-use Rattle.std.proofs.shelf.Tests.{cond-both}
+use Rattle.std.proofs.shelf.Tests.{both-ways, cases-bool, cond-both}
 pub use Rattle.measure.proofs.NoMeasure.{better-is-no-worse}
 use Rattle.measure.specs.Scale.{Scale, Value, Laws, NoWorse}
 use Rattle.network.specs.Walks.{pick}
@@ -13,6 +14,20 @@ module _ (s : Scale) (laws : Laws s) where
 
   pub equal-is-no-worse : (a b : ℕ) → Value s a → a ≡ b → NoWorse s a b
   equal-is-no-worse a b va e = subst (λ x. NoWorse s a x) e (no-worse-than-itself a va)
+
+  pub better-then-no-worse :
+      (a b c : ℕ) → Value s a → Value s b → Value s c → s .better a b ≡ true → NoWorse s b c → s .better a c ≡ true
+  better-then-no-worse a b c va vb vc t n =
+      ⊎-elim (λ h. h)
+      (λ h. absurd (both-ways (s .better a b) (laws .order-is-transitive b c a vb vc va n h) t))
+      (cases-bool (s .better a c))
+
+  pub no-worse-then-better :
+      (a b c : ℕ) → Value s a → Value s b → Value s c → NoWorse s a b → s .better b c ≡ true → s .better a c ≡ true
+  no-worse-then-better a b c va vb vc n t =
+      ⊎-elim (λ h. h)
+      (λ h. absurd (both-ways (s .better b c) (laws .order-is-transitive c a b vc va vb h n) t))
+      (cases-bool (s .better a c))
 
   -- nothing but none is as bad as none
   pub none-alone-is-as-bad : (a : ℕ) → Value s a → NoWorse s (s .none) a → a ≡ s .none

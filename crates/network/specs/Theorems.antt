@@ -85,7 +85,7 @@ pub record Every-entry-is-needed (s : Scale) (net : Network) (order : List ℕ) 
   pub in-border-rows :
       (v : ℕ) (e : Entry) → Junction net v → In e (border-row s net order v)
       → Falls-short s (best s net (getD order (e .hub) 0) v)
-        (meet s (struck (e .hub) (border-row s net order v)) (border-row s net order (getD order (e .hub) 0)))
+      (meet s (struck (e .hub) (border-row s net order v)) (border-row s net order (getD order (e .hub) 0)))
   pub in-district-rows :
       (v : ℕ) (e : Entry) → Junction net v → In e (district-row s net v)
       → Falls-short s (best s net (e .hub) v) (meet s (struck (e .hub) (district-row s net v)) (district-row s net (e .hub)))
@@ -107,11 +107,11 @@ pub record Cells-follow-from-entries (s : Scale) (net : Network) (order : List �
   pub for-border-cells :
       (i v : ℕ) → i < length order → Junction net v
       → Looking-up-is-enough s (best s net) (border-row s net order) (λ j. j) i (getD order i 0) v
-        (cell s (best s net) (take i order) (getD order i 0) v)
+      (cell s (best s net) (take i order) (getD order i 0) v)
   pub for-district-cells :
       (i k v : ℕ) → i < length (members net k) → Junction net v → district net v ≡ k
       → Looking-up-is-enough s (district-best s net k) (district-row s net) (λ j. getD (members net k) j 0) i (getD (members net k) i 0) v
-        (cell s (district-best s net k) (take i (members net k)) (getD (members net k) i 0) v)
+      (cell s (district-best s net k) (take i (members net k)) (getD (members net k) i 0) v)
 
 -- a value other than none
 abbrev pub Proper : Scale → ℕ → Type 0
