@@ -24,3 +24,4 @@ pub mod EntriesNeeded
 pub mod TwoWayRows
 pub mod Members
 pub mod RowsAnswer
+pub mod Conclusions

@@ -26,7 +26,7 @@ use Rattle.network.proofs.Members.{members-rise, member-is-inside, rank-of-mem
 -- best values between junctions of two districts go by a junction of the order
 abbrev pub Order-covers : Scale → Network → List ℕ → Type 0
 Order-covers s net order =
-    (u v : ℕ) → Junction net u → Junction net v → (district net u ≡ district net v → ⊥) → (best s net u v ≡ s .none → ⊥)
+    (u v : ℕ) → (best s net u v ≡ s .none → ⊥) → (district net u ≡ district net v → ⊥)
     → (b : ℕ) × In b order × Covers s (best s net) u v b
 
 -- inside a district, its own best values are those of the whole network
@@ -61,7 +61,7 @@ module _ (s : Scale) (laws : Laws s) (net : Network) (order : List ℕ) (dist : 
       covered =
           ⊎-elim inl
           (λ ne.
-          let c = covers u v ju jv apart ne in
+          let c = covers u v ne apart in
           let r = rank-of 0 (c .0) order (c .1) in
           inr (r .0, r .1, subst (Covers s (best s net) u v) (sym (r .2)) (c .2)))
           (cases-eq (best s net u v) (s .none))
