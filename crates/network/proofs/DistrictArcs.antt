@@ -7,12 +7,13 @@ use mathlib.Core.Logic.{_⊎_, inl, inr, ⊎-elim}
 use Prim.Native.Nat.{ℕ}
 use lib.Dec.{eqb}
 use Rattle.std.proofs.shelf.Tests.{and-parts, and-from, or-cases, or-left, or-right, eq-eqb, eqb-true, ne-eqb, not-from-false, both-ways}
+use Rattle.std.proofs.shelf.Elements.{kept-by-passes}
 use Rattle.measure.specs.Scale.{Scale}
 use Rattle.network.specs.Lists.{In, count-up}
 use Rattle.network.specs.Walks.{Arc}
-use Rattle.network.specs.Networks.{Network, Junction, Sound, district, arcs, crosses, at-a-crossing, is-border, borders}
+use Rattle.network.specs.Networks.{Network, Junction, Sound, district, arcs, crosses, at-a-crossing, is-border, borders, Border-order}
 use Rattle.network.specs.Rows.{runs-inside, inner-arcs, borders-of, members}
-use Rattle.network.proofs.Lists.{in-kept-by, kept-by-in}
+use Rattle.network.proofs.Lists.{in-kept-by, kept-by-in, distinct-kept-by, distinct-count-up}
 use Rattle.network.proofs.NetworkArcs.{junction-is-counted, counted-is-a-junction, arc-ends-are-junctions}
 
 -- an end of an arc that crosses is at a crossing
@@ -82,10 +83,22 @@ module _ (s : Scale) (net : Network) (sound : Sound s net) where
       let ends = arc-ends-are-junctions s net sound (r .0) (r .1) in
       ⊎-elim (λ e. subst (Junction net) e (ends .0)) (λ e. subst (Junction net) e (ends .1)) (r .3)
 
+  pub border-is-in-borders : (v : ℕ) → is-border net v ≡ true → In v (borders net)
+  border-is-in-borders v t =
+      in-kept-by (is-border net) v (count-up 1 (net .junctions)) t (junction-is-counted net v (border-is-a-junction v t))
+
   pub border-is-listed : (k v : ℕ) → is-border net v ≡ true → district net v ≡ k → In v (borders-of net k)
   border-is-listed k v t e =
-      in-kept-by (λ x. eqb (district net x) k) v (borders net) (eq-eqb (district net v) k e)
-      (in-kept-by (is-border net) v (count-up 1 (net .junctions)) t (junction-is-counted net v (border-is-a-junction v t)))
+      in-kept-by (λ x. eqb (district net x) k) v (borders net) (eq-eqb (district net v) k e) (border-is-in-borders v t)
+
+  -- the borders, ascending, are a border order
+  pub borders-are-an-order : Border-order net (borders net)
+  borders-are-an-order = record {
+    holds-borders-alone = kept-by-passes (is-border net) (count-up 1 (net .junctions));
+    holds-every-border = border-is-in-borders;
+    holds-none-twice =
+        distinct-kept-by (is-border net) (count-up 1 (net .junctions)) (distinct-count-up 1 (net .junctions));
+  }
 
 -- the junctions of a district are what `members` lists
 pub member-is-listed : (net : Network) (k v : ℕ) → Junction net v → district net v ≡ k → In v (members net k)

@@ -17,6 +17,7 @@ pub mod Districts
 pub mod Cells
 pub mod Covering
 pub mod RowRanks
+pub mod RowLengths
 pub mod Meeting
 pub mod RowEntries
 pub mod RowsJoined

@@ -1,7 +1,7 @@
 // Walks, best values, borders and rows, and why two short rows answer every pair. Each theorem is a function that does nothing.
 ghost use mathlib.Core.List.{List};
 ghost use Prim.Native.Nat.{ℕ};
-ghost use Rattle.network.specs.Networks.{Network, Border-order};
+ghost use Rattle.network.specs.Networks.{Network, Sound, borders, Border-order};
 ghost use Rattle.network.specs.Theorems.{Allowed, Best-is-well-defined, Border-rows-answer, District-rows-answer, Offers-give-best};
 ghost use Rattle.network.specs.Theorems.{Every-entry-is-needed, Cells-follow-from-entries, Rows-ascend};
 use measure::Measure;
@@ -9,6 +9,11 @@ use measure::Measure;
 // What is computed as the best value is the best over all walks, and no other value is.
 pub fn best_is_well_defined<M: Measure>()
     ensures { λ _. ⌜ ((net : Network) → Allowed (M·Measure .scale) net → Best-is-well-defined (M·Measure .scale) net) ⌝ }
+{}
+
+// The borders, ascending, are a border order.
+pub fn borders_are_an_order<M: Measure>()
+    ensures { λ _. ⌜ ((net : Network) → Sound (M·Measure .scale) net → Border-order net (borders net)) ⌝ }
 {}
 
 // Between junctions of two districts, their border rows joined give the best value, whatever the order of the borders.
