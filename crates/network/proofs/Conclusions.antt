@@ -1,6 +1,6 @@
 -- What border rows and district rows give, for every network that a book may be made of. Assumes nothing.
-use Prim.Native.Nat.{ℕ}
 use mathlib.Core.List.{List}
+use Prim.Native.Nat.{ℕ}
 use Rattle.measure.specs.Scale.{Scale, Laws}
 use Rattle.network.specs.Networks.{Network, Border-order}
 use Rattle.network.specs.Theorems.{Allowed, Border-rows-answer, District-rows-answer, Every-entry-is-needed, Cells-follow-from-entries, Rows-ascend}
