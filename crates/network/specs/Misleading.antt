@@ -20,8 +20,8 @@ row-without-shortcuts s net v =
     (members net (district net v)) v
 
 -- From 1 to 3 such rows answer 1600, by junction 2, though 450 is the best.
-abbrev pub Without-shortcuts-rows-mislead : Type 0
-Without-shortcuts-rows-mislead =
+abbrev pub Rows-without-shortcuts-mislead : Type 0
+Rows-without-shortcuts-mislead =
     (meet metres (row-without-shortcuts metres six 1) (row-without-shortcuts metres six 3) ≡ Some (entry 1 1600))
     × (best metres six 1 3 ≡ 450)
 

@@ -4,6 +4,8 @@ ghost use Prim.Native.Nat.{ℕ};
 ghost use Rattle.network.specs.Networks.{Network, Sound, borders, Border-order};
 ghost use Rattle.network.specs.Theorems.{Allowed, Best-is-well-defined, Border-rows-answer, District-rows-answer, Offers-give-best};
 ghost use Rattle.network.specs.Theorems.{Every-entry-is-needed, Cells-follow-from-entries, Rows-ascend};
+ghost use Rattle.network.specs.Worked.{All-hold, network-cases};
+ghost use Rattle.network.specs.Misleading.{Rows-without-shortcuts-mislead, Kept-ties-add-entries};
 use measure::Measure;
 
 // What is computed as the best value is the best over all walks, and no other value is.
@@ -45,4 +47,19 @@ pub fn cells_follow_from_entries<M: Measure>()
 // Rows ascend, and have values other than none.
 pub fn rows_ascend<M: Measure>()
     ensures { λ _. ⌜ ((net : Network) (order : List ℕ) → Allowed (M·Measure .scale) net → Rows-ascend (M·Measure .scale) net order) ⌝ }
+{}
+
+// The borders, border rows, shortcuts and district rows of a network of six junctions, worked out.
+pub fn six_junctions_worked_out()
+    ensures { λ _. ⌜ All-hold network-cases ⌝ }
+{}
+
+// District rows that are made without shortcuts give a longer way for the best.
+pub fn rows_without_shortcuts_mislead()
+    ensures { λ _. ⌜ Rows-without-shortcuts-mislead ⌝ }
+{}
+
+// A rule that keeps a cell where an earlier hub ties adds entries.
+pub fn kept_ties_add_entries()
+    ensures { λ _. ⌜ Kept-ties-add-entries ⌝ }
 {}

@@ -1,0 +1,5 @@
+use mathlib.Core.Path.{refl}
+use Rattle.network.proofs.rows_without_shortcuts_mislead.Needs as need
+
+pub returns : need.returns
+returns c = (refl, refl)
