@@ -47,29 +47,41 @@ bad-border ws c j =
     not (within 1 (c .junctions) (word ws ((order-at c) .first + j)))
     || among (word ws ((order-at c) .first + j)) (take j (words-in (order-at c) ws))
 
+-- The rows under the borders and those inside the districts lie alike: where their offsets are, where their entries are, and how
+-- many entries there are.
+abbrev pub offsets-at : Counts → Names → Section
+offsets-at c Ranks = border-offsets-at c
+offsets-at c Hubs = district-offsets-at c
+
+abbrev pub entries-at : Counts → Names → Section
+entries-at c Ranks = border-entries-at c
+entries-at c Hubs = district-entries-at c
+
+abbrev pub entry-count : Counts → Names → ℕ
+entry-count c Ranks = c .«border_entries»
+entry-count c Hubs = c .«district_entries»
+
+-- offset number j, and word number j of the entries
+abbrev pub offset : List ℕ → Counts → Names → ℕ → ℕ
+offset ws c names j = word ws ((offsets-at c names) .first + j)
+
+abbrev pub entry-word : List ℕ → Counts → Names → ℕ → ℕ
+entry-word ws c names j = word ws ((entries-at c names) .first + j)
+
 -- offsets begin at 0, never fall, never pass the number of entries, and end there
-abbrev pub bad-offset : List ℕ → Section → ℕ → ℕ → Bool
-bad-offset ws x most j =
-    cond (eqb j 0) (not (eqb (word ws (x .first)) 0)) (ltb (word ws (x .first + j)) (word ws (x .first + (j - 1))))
-    || ltb most (word ws (x .first + j))
-    || (eqb (j + 1) (x .size) && not (eqb (word ws (x .first + j)) most))
+abbrev pub bad-offset : List ℕ → Counts → Names → ℕ → Bool
+bad-offset ws c names j =
+    (cond (eqb j 0) (not (eqb (offset ws c names j) 0)) (ltb (offset ws c names j) (offset ws c names (j - 1)))
+    || ltb (entry-count c names) (offset ws c names j))
+    || (eqb j (c .junctions) && not (eqb (offset ws c names j) (entry-count c names)))
 
 -- entry number e is the first of its row: its number is one of the offsets
-abbrev pub begins-a-row : List ℕ → Section → ℕ → Bool
-begins-a-row ws offsets e = among e (words-in offsets ws)
+abbrev pub begins-a-row : List ℕ → Counts → Names → ℕ → Bool
+begins-a-row ws c names e = among e (words-in (offsets-at c names) ws)
 
 -- the junction whose row entry number e is in: as many offsets are at most e
-abbrev pub row-of : List ℕ → Section → ℕ → ℕ
-row-of ws offsets e = length (kept-by (λ o. leb o e) (words-in offsets ws))
-
--- A word of an entry. The value, which is the second word, is a value of the measure other than none. The hub's name, which is
--- the first, passes the test `right`, given the junction whose row it is in, and is above the name before it in the row.
-abbrev pub bad-entry : Scale → List ℕ → Section → Section → (ℕ → ℕ → Bool) → ℕ → Bool
-bad-entry s ws offsets x right j =
-    cond (eqb (j % 2) 1)
-    (not (s .value (word ws (x .first + j))) || eqb (word ws (x .first + j)) (s .none))
-    (not (right (row-of ws offsets (j / 2)) (word ws (x .first + j)))
-    || (not (begins-a-row ws offsets (j / 2)) && leb (word ws (x .first + j)) (word ws (x .first + (j - 2)))))
+abbrev pub row-of : List ℕ → Counts → Names → ℕ → ℕ
+row-of ws c names e = length (kept-by (λ o. leb o e) (words-in (offsets-at c names) ws))
 
 -- a name of a hub is right in the row of junction v: a rank is below the number of borders, and a hub of a district row is a
 -- junction of the same district as v
@@ -77,6 +89,20 @@ abbrev pub right-name : List ℕ → Counts → Names → ℕ → ℕ → Bool
 right-name ws c Ranks v h = ltb h (c .borders)
 right-name ws c Hubs v h =
     within 1 (c .junctions) h && eqb (word ws ((places-at c) .first + (h - 1))) (word ws ((places-at c) .first + (v - 1)))
+
+-- the value of an entry is a value of the measure, other than none
+abbrev pub bad-value : Scale → ℕ → Bool
+bad-value s x = not (s .value x) || eqb x (s .none)
+
+-- the name in entry number e is right, and above the name before it in the row
+abbrev pub bad-name : List ℕ → Counts → Names → ℕ → Bool
+bad-name ws c names e =
+    not (right-name ws c names (row-of ws c names e) (entry-word ws c names (2 * e)))
+    || (not (begins-a-row ws c names e) && leb (entry-word ws c names (2 * e)) (entry-word ws c names (2 * (e - 1))))
+
+-- entry number e has its name in word 2 e and its value in word 2 e + 1
+abbrev pub bad-entry : Scale → List ℕ → Counts → Names → ℕ → Bool
+bad-entry s ws c names j = cond (eqb (j % 2) 0) (bad-name ws c names (j / 2)) (bad-value s (entry-word ws c names j))
 
 -- a part of the words: where it lies, and which of its words are bad
 pub record Part : Type 0 where
@@ -92,10 +118,10 @@ parts s ws c =
     part (section 0 8) (bad-count c)
     ∷ part (places-at c) (bad-district ws c)
     ∷ part (order-at c) (bad-border ws c)
-    ∷ part (border-offsets-at c) (bad-offset ws (border-offsets-at c) (c .«border_entries»))
-    ∷ part (border-entries-at c) (bad-entry s ws (border-offsets-at c) (border-entries-at c) (right-name ws c Ranks))
-    ∷ part (district-offsets-at c) (bad-offset ws (district-offsets-at c) (c .«district_entries»))
-    ∷ part (district-entries-at c) (bad-entry s ws (district-offsets-at c) (district-entries-at c) (right-name ws c Hubs))
+    ∷ part (offsets-at c Ranks) (bad-offset ws c Ranks)
+    ∷ part (entries-at c Ranks) (bad-entry s ws c Ranks)
+    ∷ part (offsets-at c Hubs) (bad-offset ws c Hubs)
+    ∷ part (entries-at c Hubs) (bad-entry s ws c Hubs)
     ∷ []
 
 -- the place i lies in a part, and its word there is bad

@@ -77,16 +77,3 @@ abbrev pub entries : List ℕ → List Entry
 entries [] = []
 entries (h ∷ []) = []
 entries (h ∷ x ∷ ws) = entry h x ∷ entries ws
-
--- The part of the entries that is the row of junction v: from offset number v - 1 to offset number v, counted in entries.
-abbrev pub row-at : Section → Section → List ℕ → ℕ → Section
-row-at offsets rows ws v =
-    section (rows .first + 2 * word ws (offsets .first + (v - 1)))
-    (2 * (word ws (offsets .first + v) - word ws (offsets .first + (v - 1))))
-
--- the words of the border row and of the district row of junction v
-abbrev pub border-row-words : List ℕ → ℕ → List ℕ
-border-row-words ws v = words-in (row-at (border-offsets-at (counts-of ws)) (border-entries-at (counts-of ws)) ws v) ws
-
-abbrev pub district-row-words : List ℕ → ℕ → List ℕ
-district-row-words ws v = words-in (row-at (district-offsets-at (counts-of ws)) (district-entries-at (counts-of ws)) ws v) ws

@@ -1,4 +1,5 @@
 pub mod Layout
 pub mod Words
 pub mod Bad
+pub mod Ready
 pub mod Opened

@@ -3,7 +3,7 @@ use mathlib.Core.Path.{_≡_}
 use mathlib.Core.Bool.{Bool, true, false, not, _||_}
 use mathlib.Core.List.{List, [], _∷_}
 use mathlib.Core.Logic.{_⊎_}
-use Prim.Native.Nat.{ℕ, _<_}
+use Prim.Native.Nat.{ℕ, _+_, _-_, _*_}
 use lib.Dec.{eqb, ltb}
 use lib.ListN.{length, getD}
 use denote.Ref.{RefT}
@@ -20,9 +20,10 @@ use Rattle.drawing.specs.declared.refusal.Refusal.the-variants.{OtherMeasure, N
 use Rattle.std.specs.shelf.Lists.{All}
 use Rattle.network.specs.Labels.{Entry, meet, Ascends}
 use Rattle.network.specs.Theorems.{Proper}
-use Rattle.book.specs.Layout.{word, counts-of, entries}
+use Rattle.book.specs.Layout.{word, counts-of, Section, section, words-in, entries}
 use Rattle.book.specs.Words.{entry-words}
-use Rattle.book.specs.Bad.{First-bad, None-bad}
+use Rattle.book.specs.Bad.{offsets-at, entries-at, offset, First-bad, None-bad}
+use Rattle.book.specs.declared.names.Names.{Names}
 use Rattle.book.specs.declared.opened.Book.{Book}
 
 -- what open checks before it looks for a bad word
@@ -51,12 +52,22 @@ Opens-exactly-books s ws (Err x) =
     (verdict (open-checks s ws) ≡ Err x)
     ⊎ ((verdict (open-checks s ws) ≡ Ok tt) × ((i : ℕ) × First-bad s ws i × (x ≡ BadEntry of-the-book i)))
 
--- A call on an opened book hands out the row of junction v, the part of the words that `row-words` says, or refuses v with 4 if
--- it is no junction.
-abbrev pub Hands-out-the-row : Scale → (List ℕ → ℕ → List ℕ) → Book → ℕ → Result (RefT (List ℕ)) Refusal → Type 0
-Hands-out-the-row s row-words b v r =
+-- The part of the entries that is the row of junction v: from offset number v - 1 to offset number v, counted in entries.
+abbrev pub row-at : List ℕ → Names → ℕ → Section
+row-at ws names v =
+    section ((entries-at (counts-of ws) names) .first + 2 * offset ws (counts-of ws) names (v - 1))
+    (2 * (offset ws (counts-of ws) names v - offset ws (counts-of ws) names (v - 1)))
+
+-- the words of that row
+abbrev pub row-words : List ℕ → Names → ℕ → List ℕ
+row-words ws names v = words-in (row-at ws names v) ws
+
+-- A call on an opened book hands out the row of junction v, the part of the words that it occupies, or refuses v with 4 if it is
+-- no junction.
+abbrev pub Hands-out-the-row : Scale → Names → Book → ℕ → Result (RefT (List ℕ)) Refusal → Type 0
+Hands-out-the-row s names b v r =
     (ws : List ℕ) → Is-book s ws → Shows ws b
-    → Ends (verdict (refuse NoJunction (not (within 1 (word ws 2) v)) ∷ [])) r (Unit {0}) (λ part. part .now ≡ row-words ws v)
+    → Ends (verdict (refuse NoJunction (not (within 1 (word ws 2) v)) ∷ [])) r (Unit {0}) (λ part. part .now ≡ row-words ws names v)
 
 -- the words of two rows, each with its entries whole, its hubs ascending and its values other than none
 pub record Is-row (s : Scale) (ws : List ℕ) : Type 0 where
