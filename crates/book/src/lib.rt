@@ -8,9 +8,11 @@ mod opening;
 mod rows;
 mod sections;
 mod span;
+mod worked;
 
 pub use counts::Counts;
 pub use names::Names;
 pub use opened::Book;
 pub use opening::open;
 pub use span::Span;
+pub use worked::six_junctions_answered;
