@@ -1,0 +1,12 @@
+// Road text: networks in the form of the Ninth DIMACS Challenge.
+mod fields;
+mod line;
+mod outcome;
+mod parts;
+mod reading;
+
+pub use outcome::Reading;
+pub use outcome::Unread;
+pub use parts::Arc;
+pub use parts::Two;
+pub use reading::read;
