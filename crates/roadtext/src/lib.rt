@@ -1,6 +1,7 @@
 // Road text: networks in the form of the Ninth DIMACS Challenge.
 mod fields;
 mod line;
+mod lines;
 mod outcome;
 mod parts;
 mod reading;
