@@ -28,13 +28,16 @@ field-after f fs zero h = absurd (omega arith)
 field-after f fs (suc k) h = rw add-one refl
 
 -- there is a field after number i exactly if there are more than i
-pub field-beyond : (fs : List (List ℕ)) (i : ℕ) → isSome (field fs (i + 1)) ≡ ltb i (length fs)
-field-beyond fs i = rw add-one (beyond fs i)
-  where
-  beyond : (fs : List (List ℕ)) (i : ℕ) → isSome (field fs (suc i)) ≡ ltb i (length fs)
-  beyond [] i = sym (le-ltb i 0 (omega arith))
-  beyond (f ∷ fs) zero = sym (lt-ltb 0 (suc (length fs)) (omega arith))
-  beyond (f ∷ fs) (suc i) = beyond fs i ∙ grind (arith, tells)
+field-beyond : (fs : List (List ℕ)) (i : ℕ) → isSome (field fs (suc i)) ≡ ltb i (length fs)
+field-beyond [] i = sym (le-ltb i 0 (omega arith))
+field-beyond (f ∷ fs) zero = sym (lt-ltb 0 (suc (length fs)) (omega arith))
+field-beyond (f ∷ fs) (suc i) = field-beyond fs i ∙ grind (arith, tells)
+
+pub field-absent : (fs : List (List ℕ)) (i : ℕ) → None ≡ field fs (i + 1) → ltb i (length fs) ≡ false
+field-absent fs i e = sym (field-beyond fs i) ∙ ap isSome (sym (rw add-one at e))
+
+pub field-present : (fs : List (List ℕ)) (i : ℕ) (f : List ℕ) → Some f ≡ field fs (i + 1) → ltb i (length fs) ≡ true
+field-present fs i f e = sym (field-beyond fs i) ∙ ap isSome (sym (rw add-one at e))
 
 module _ (line : List ℕ) (end : ℕ) (first : end ≡ place-of 32 line) where
   -- past the first space the fields are counted on
