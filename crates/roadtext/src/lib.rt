@@ -1,4 +1,5 @@
 // Road text: networks in the form of the Ninth DIMACS Challenge.
+mod answer;
 mod fields;
 mod line;
 mod lines;
@@ -6,6 +7,7 @@ mod outcome;
 mod parts;
 mod reading;
 
+pub use answer::answer_line;
 pub use outcome::Reading;
 pub use outcome::Unread;
 pub use parts::Arc;
