@@ -1,10 +1,9 @@
 -- Each space passed leaves one field behind. Assumes nothing.
 use mathlib.Core.Path.{_≡_, sym, ap, _∙_}
-use mathlib.Core.List.{List}
-use Prim.Native.Nat.{ℕ, _+_, _-_, _≤_}
+use Prim.Native.Nat.{_+_, _-_}
 use native.Mathlib.Nat.{sub-zero}
 use native.Mathlib.Omega.{arith}
-use lib.ListN.{length, length-drop}
+use lib.ListN.{length-drop}
 use Rattle.std.proofs.shelf.Lists.{take-rest}
 use Rattle.roadtext.specs.Text.{fields, field}
 use Rattle.roadtext.proofs.FieldNumbers.{field-zero, field-on, field-none, field-first}

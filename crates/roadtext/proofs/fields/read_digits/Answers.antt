@@ -1,10 +1,6 @@
 -- Each digit read makes ten of one and adds itself. Assumes nothing.
-use mathlib.Core.Path.{_≡_, refl}
 use mathlib.Core.Logic.{inl, inr}
-use Prim.Native.Nat.{_+_, _-_, _*_}
 use native.Mathlib.Omega.{arith}
-use lib.ListN.{drop, getD}
-use Rattle.roadtext.specs.Text.{digits-after}
 use Rattle.roadtext.proofs.Numbers.{no-number-here, digit-read, digits-on, number-done, power-on, digits-fit}
 use Rattle.roadtext.proofs.fields.read_digits.Needs as need
 use Rattle.roadtext.proofs.fields.read_digits.Needs.{then-b-lt48·by·then-b-lt48, then-b-lt48·by·else-b-lt48·then-b-gt57}
