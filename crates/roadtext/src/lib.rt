@@ -4,9 +4,11 @@ mod line;
 mod outcome;
 mod parts;
 mod reading;
+mod theorems;
 
 pub use outcome::Reading;
 pub use outcome::Unread;
 pub use parts::Arc;
 pub use parts::Two;
 pub use reading::read;
+pub use theorems::fault_is_the_first;
