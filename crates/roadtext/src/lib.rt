@@ -12,3 +12,4 @@ pub use parts::Arc;
 pub use parts::Two;
 pub use reading::read;
 pub use theorems::fault_is_the_first;
+pub use theorems::written_networks_read_back;
