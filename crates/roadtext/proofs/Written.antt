@@ -8,6 +8,7 @@ use Rattle.roadtext.specs.Reading.{Room}
 use Rattle.roadtext.specs.Written.{Writable, Reads-back}
 use Rattle.roadtext.proofs.WrittenNumbers.{number-decimal}
 use Rattle.roadtext.proofs.WrittenFields.{fields-of-spaced}
+use Rattle.roadtext.proofs.WrittenLines.{reading}
 
 pub reads-back : (s : Scale) (room : Room) (n : ℕ) (roads : List Arc) (moves asks : List Two) → Writable s room n roads moves asks → Reads-back s room n roads moves asks
 reads-back s room n roads moves asks w = ?

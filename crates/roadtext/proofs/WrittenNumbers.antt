@@ -1,12 +1,13 @@
 -- A number below 10 ^ 10, written in decimal, is read back. Assumes nothing.
 use mathlib.Core.Path.{_≡_, refl, ap, _∙_}
 use mathlib.Core.Bool.{true, _&&_}
-use mathlib.Core.List.{List, [], _∷_}
+use mathlib.Core.List.{List, [], _∷_, map}
 use Prim.Native.Nat.{ℕ, _^_, _<_, _≤_}
 use native.Mathlib.Omega.{arith}
 use borrow.Author.Needs.{needs}
 use lib.ListN.{length}
 use Rattle.std.specs.declared.option.Option.the-variants.{Some, None}
+use Rattle.std.specs.shelf.Lists.{All}
 use Rattle.std.specs.Written.{decimal}
 use Rattle.std.proofs.shelf.Decimals.{length-decimal-le, decimal-some, digits-decimal, value-decimal}
 use Rattle.std.proofs.shelf.Numerals.{Numerals, numerals-by-fold}
@@ -42,3 +43,7 @@ digits-lack byte low (d ∷ ds) h =
 
 pub decimal-lacks : (byte n : ℕ) → byte < 48 → n < 10 ^ 10 → Lacks byte (decimal n)
 decimal-lacks byte n low small = digits-lack byte low (decimal n) (decimal-has-digits n small)
+
+pub decimals-lack : (byte : ℕ) → byte < 48 → (ns : List ℕ) → All (λ n. n < 10 ^ 10) ns → All (Lacks byte) (map decimal ns)
+decimals-lack byte low [] t = tt
+decimals-lack byte low (n ∷ ns) (h, t) = (decimal-lacks byte n low h, decimals-lack byte low ns t)
