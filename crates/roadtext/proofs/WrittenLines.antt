@@ -16,7 +16,7 @@ use Rattle.roadtext.specs.declared.parts.Two.{Two}
 use Rattle.roadtext.specs.declared.parts.Stage.{Stage}
 use Rattle.roadtext.specs.declared.parts.Stage.the-variants.{Head, Arc as ArcAwaited, Twin, Tail, Asks}
 use Rattle.roadtext.specs.Text.{fields}
-use Rattle.roadtext.specs.Lines.{a-checks}
+use Rattle.roadtext.specs.Lines.{check, no-twin, a-checks, q-checks, arc-in, two-in}
 use Rattle.roadtext.specs.Reading.{State, nothing-read, Room, is-comment, is-twin, line-checks, arcs-to-come, after-line}
 use Rattle.roadtext.specs.FirstFault.{checks-of, with-line, All-pass}
 use Rattle.roadtext.specs.Written.{spaced, head-line, arc-line, move-line, ask-line, Lacks, Junction-of, Writable-road}
@@ -68,3 +68,80 @@ module _ (s : Scale) (room : Room) where
       (fields-of-spaced (112 ∷ []) ((115 ∷ 112 ∷ []) ∷ decimal n ∷ decimal a ∷ []) (head-line-lacks 32 (omega arith) n a (omega arith) small))
       (refl, head-passes (room .places) (decimal n) (decimal a) n a p q few fits even)
       (ap₂ (λ y z. reading (arcs-to-come z) y [] [] []) (its-value (decimal n) n p) (its-value (decimal a) a q))
+
+  -- the lines after the head, in a network of n junctions
+  module _ (n : ℕ) (few : n ≤ 4096) where
+    module _ (a : Arc) (road : Writable-road s n a) where
+      fields-of-arc : fields (arc-line (a .from) (a .to) (a .worth)) ≡ arc-fields (decimal (a .from)) (decimal (a .to)) (decimal (a .worth))
+      fields-of-arc =
+          fields-of-letter-line 97 (λ e. omega arith) (a .from ∷ a .to ∷ a .worth ∷ []) (omega arith, (omega arith, (omega arith, tt)))
+
+      checks-of-arc : All-pass (a-checks s n (arc-fields (decimal (a .from)) (decimal (a .to)) (decimal (a .worth))))
+      checks-of-arc =
+          arc-passes (decimal (a .from)) (decimal (a .to)) (decimal (a .worth)) a (number-decimal (a .from) (omega arith))
+          (number-decimal (a .to) (omega arith)) (number-decimal (a .worth) (omega arith)) s n road
+
+      arc-of-arc-line : arc-in (arc-fields (decimal (a .from)) (decimal (a .to)) (decimal (a .worth))) ≡ a
+      arc-of-arc-line =
+          arc-is-read (decimal (a .from)) (decimal (a .to)) (decimal (a .worth)) a (number-decimal (a .from) (omega arith))
+          (number-decimal (a .to) (omega arith)) (number-decimal (a .worth) (omega arith))
+
+    module _ (roads : List Arc) (moves asks : List Two) where
+      pub arc-adds :
+          (a : Arc) → Writable-road s n a → (k : ℕ)
+          → Adds (reading (ArcAwaited k) n roads moves asks) (arc-line (a .from) (a .to) (a .worth)) (reading (Twin a (k - 2)) n roads moves asks)
+      arc-adds a road k =
+          by-its-fields (reading (ArcAwaited k) n roads moves asks) (arc-line (a .from) (a .to) (a .worth))
+          (arc-fields (decimal (a .from)) (decimal (a .to)) (decimal (a .worth))) (reading (Twin a (k - 2)) n roads moves asks)
+          (fields-of-arc a road) (refl, checks-of-arc a road) (ap (λ y. reading (Twin y (k - 2)) n roads moves asks) (arc-of-arc-line a road))
+
+      pub twin-adds :
+          (a : Arc) → Writable-road s n a → (k : ℕ) → length roads < 16384 → length roads < room .records
+          → Adds (reading (Twin a k) n roads moves asks) (arc-line (a .to) (a .from) (a .worth)) (reading (arcs-to-come k) n (roads ++ (a ∷ [])) moves asks)
+      twin-adds a road k h j =
+          let back = turned-is-writable s n a road in
+          let fs : List (List ℕ) = arc-fields (decimal (a .to)) (decimal (a .from)) (decimal (a .worth)) in
+          by-its-fields (reading (Twin a k) n roads moves asks) (arc-line (a .to) (a .from) (a .worth)) fs
+          (reading (arcs-to-come k) n (roads ++ (a ∷ [])) moves asks) (fields-of-arc (turned a) back)
+          (refl, all-append (λ c. c .fails ≡ false) (a-checks s n fs) (check 1 no-twin (not (is-twin a (arc-in fs))) ∷ check 1 8 (leb 16384 (length roads) || leb (room .records) (length roads)) ∷ [])
+            (checks-of-arc (turned a) back)
+            (ap (λ y. not (is-twin a y)) (arc-of-arc-line (turned a) back) ∙ ap not (turned-is-twin a),
+            (or-from (leb 16384 (length roads)) (leb (room .records) (length roads)) (lt-leb 16384 (length roads) h) (lt-leb (room .records) (length roads) j), tt)))
+          refl
+
+      module _ (letter : ℕ) (other : letter ≡ 32 → ⊥) (m : Two) (left : m .left < 10 ^ 10) (right : m .right < 10 ^ 10) where
+        fields-of-two : fields (spaced (letter ∷ []) (decimal (m .left) ∷ decimal (m .right) ∷ [])) ≡ two-fields letter (decimal (m .left)) (decimal (m .right))
+        fields-of-two = fields-of-letter-line letter other (m .left ∷ m .right ∷ []) (left, (right, tt))
+
+        two-of-line : two-in (two-fields letter (decimal (m .left)) (decimal (m .right))) ≡ m
+        two-of-line =
+            two-is-read letter (decimal (m .left)) (decimal (m .right)) m (number-decimal (m .left) left) (number-decimal (m .right) right)
+
+      pub move-adds :
+          (m : Two) → Junction-of n (m .left) → m .right < 64
+          → Adds (reading Tail n roads moves asks) (move-line (m .left) (m .right)) (reading Tail n roads (moves ++ (m ∷ [])) asks)
+      move-adds m h k =
+          let left : m .left < 10 ^ 10 = omega arith in
+          let right : m .right < 10 ^ 10 = omega arith in
+          by-its-fields (reading Tail n roads moves asks) (move-line (m .left) (m .right)) (two-fields 100 (decimal (m .left)) (decimal (m .right)))
+          (reading Tail n roads (moves ++ (m ∷ [])) asks) (fields-of-two 100 (λ e. omega arith) m left right)
+          (move-passes 100 (decimal (m .left)) (decimal (m .right)) m (number-decimal (m .left) left) (number-decimal (m .right) right) n h k)
+          (ap (λ y. reading Tail n roads (moves ++ (y ∷ [])) asks) (two-of-line 100 (λ e. omega arith) m left right))
+
+      module _ (q : Two) (h : Junction-of n (q .left)) (k : Junction-of n (q .right)) where
+        checks-of-ask : All-pass (q-checks n (two-fields 113 (decimal (q .left)) (decimal (q .right))))
+        checks-of-ask =
+            ask-passes 113 (decimal (q .left)) (decimal (q .right)) q (number-decimal (q .left) (omega arith)) (number-decimal (q .right) (omega arith)) n h k
+
+        ask-of-line : reading Asks n roads moves (asks ++ (two-in (two-fields 113 (decimal (q .left)) (decimal (q .right))) ∷ [])) ≡ reading Asks n roads moves (asks ++ (q ∷ []))
+        ask-of-line = ap (λ y. reading Asks n roads moves (asks ++ (y ∷ []))) (two-of-line 113 (λ e. omega arith) q (omega arith) (omega arith))
+
+        pub first-ask-adds : Adds (reading Tail n roads moves asks) (ask-line (q .left) (q .right)) (reading Asks n roads moves (asks ++ (q ∷ [])))
+        first-ask-adds =
+            by-its-fields (reading Tail n roads moves asks) (ask-line (q .left) (q .right)) (two-fields 113 (decimal (q .left)) (decimal (q .right)))
+            (reading Asks n roads moves (asks ++ (q ∷ []))) (fields-of-two 113 (λ e. omega arith) q (omega arith) (omega arith)) (refl, checks-of-ask) ask-of-line
+
+        pub ask-adds : Adds (reading Asks n roads moves asks) (ask-line (q .left) (q .right)) (reading Asks n roads moves (asks ++ (q ∷ [])))
+        ask-adds =
+            by-its-fields (reading Asks n roads moves asks) (ask-line (q .left) (q .right)) (two-fields 113 (decimal (q .left)) (decimal (q .right)))
+            (reading Asks n roads moves (asks ++ (q ∷ []))) (fields-of-two 113 (λ e. omega arith) q (omega arith) (omega arith)) (refl, checks-of-ask) ask-of-line
