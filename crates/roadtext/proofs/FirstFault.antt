@@ -3,50 +3,27 @@ use mathlib.Core.Path.{_≡_, refl, sym, ap, ap₂, _∙_, subst}
 use mathlib.Core.Bool.{Bool, true, false, cond}
 use mathlib.Core.List.{List, [], _∷_, _++_, append-nil}
 use mathlib.Core.Logic.{_⊎_, inl, inr, ⊎-elim}
-use Prim.Native.Nat.{ℕ, _+_, _<_, _≤_}
+use Prim.Native.Nat.{ℕ, _+_, _≤_}
 use native.Mathlib.Omega.{arith}
-use lib.Dec.{ltb}
 use lib.ListN.{length}
 use Rattle.std.specs.declared.result.Result.{Result}
 use Rattle.std.specs.declared.result.Result.the-variants.{Ok, Err}
-use Rattle.std.proofs.shelf.Tests.{cases-bool, cases-lt, both-ways, lt-ltb, le-ltb, ltb-false}
+use Rattle.std.proofs.shelf.Tests.{cases-bool, cases-lt, both-ways, lt-ltb, le-ltb}
 use Rattle.measure.specs.Scale.{Scale}
-use Rattle.roadtext.specs.declared.parts.LineFault.{LineFault}
 use Rattle.roadtext.specs.declared.parts.Stage.{Stage}
 use Rattle.roadtext.specs.declared.parts.Stage.the-variants.{Head, Arc as ArcAwaited, Twin, Tail, Asks}
 use Rattle.roadtext.specs.Text.{lines, fields}
 use Rattle.roadtext.specs.Lines.{Check, passed, letter-out-of-place, too-long}
-use Rattle.roadtext.specs.Reading.{State, nothing-read, Room, Fault, fault, is-comment, line-checks, after-line, at-line, read-line, ended, then-lines, read-lines, read-text}
-use Rattle.roadtext.specs.FirstFault.{checks-of, with-line, with-lines, All-pass, No-fault, Fails-first, At-a-line, awaits, At-the-end, First-fault, Faultless, Fault-is-the-first}
+use Rattle.roadtext.specs.Reading.{State, nothing-read, Room, Fault, fault}
+use Rattle.roadtext.specs.Reading.{is-comment, line-checks, after-line, at-line, read-line, ended, then-lines, read-lines, read-text}
+use Rattle.roadtext.specs.FirstFault.{checks-of, with-line, with-lines, All-pass, No-fault, Fails-first}
+use Rattle.roadtext.specs.FirstFault.{At-a-line, awaits, First-fault, Faultless, Fault-is-the-first}
+use Rattle.roadtext.proofs.FirstFailing.{passed-where-all-pass, passed-at-a-failing, fails-or-passes}
 
--- Checks either all pass, or have a first that fails.
+-- At the end of the lines.
 
-abbrev fault-of : Check → LineFault
-fault-of c = record { field = c .field-number; cause = c .cause }
-
-pub passed-where-all-pass : {A : Type 0} (cs : List Check) (x : A) → All-pass cs → passed cs x ≡ Ok x
-passed-where-all-pass [] x t = refl
-passed-where-all-pass (c ∷ cs) x (h, t) = simp h (passed-where-all-pass cs x t)
-
-pub passed-at-a-failing :
-    {A : Type 0} (cs : List Check) (c : Check) (more : List Check) (x : A) → All-pass cs → c .fails ≡ true
-    → passed (cs ++ (c ∷ more)) x ≡ Err (fault-of c)
-passed-at-a-failing [] c more x t e = simp e
-passed-at-a-failing (d ∷ cs) c more x (h, t) e = simp h (passed-at-a-failing cs c more x t e)
-
-abbrev Some-fails : List Check → Type 0
-Some-fails cs = (field : ℕ) × (cause : ℕ) × Fails-first cs field cause
-
-fails-or-passes : (cs : List Check) → Some-fails cs ⊎ All-pass cs
-fails-or-passes [] = inr tt
-fails-or-passes (c ∷ cs) =
-    ⊎-elim (λ h. inl (c .field-number, c .cause, record { earlier = []; failing = c; later = cs; in-order = refl; earlier-pass = tt; it-fails = h; its-field = refl; its-cause = refl }))
-    (λ h. ⊎-elim (λ r. inl (r .0, r .1, record { earlier = c ∷ r .2 .earlier; failing = r .2 .failing; later = r .2 .later; in-order = ap (λ l. c ∷ l) (r .2 .in-order); earlier-pass = (h, r .2 .earlier-pass); it-fails = r .2 .it-fails; its-field = r .2 .its-field; its-cause = r .2 .its-cause }))
-        (λ t. inr (h, t)) (fails-or-passes cs)) (cases-bool (c .fails))
-
--- at the end of the lines
-
-ended-while-awaiting : (l : ℕ) (st : State) (stage : Stage) → awaits stage ≡ true → ended l st stage ≡ Err (fault l 1 letter-out-of-place)
+ended-while-awaiting :
+    (l : ℕ) (st : State) (stage : Stage) → awaits stage ≡ true → ended l st stage ≡ Err (fault l 1 letter-out-of-place)
 ended-while-awaiting l st Head e = refl
 ended-while-awaiting l st (ArcAwaited k) e = refl
 ended-while-awaiting l st (Twin a k) e = refl
@@ -60,7 +37,8 @@ ended-well l st (Twin a k) e = absurd (both-ways true e refl)
 ended-well l st Tail e = refl
 ended-well l st Asks e = refl
 
-fault-of-parts : (f : Fault) (l field cause : ℕ) → f .line ≡ l → f .field-number ≡ field → f .cause ≡ cause → f ≡ fault l field cause
+fault-of-parts :
+    (f : Fault) (l field cause : ℕ) → f .line ≡ l → f .field-number ≡ field → f .cause ≡ cause → f ≡ fault l field cause
 fault-of-parts f l field cause p q r = ap (λ x. fault x (f .field-number) (f .cause)) p ∙ ap₂ (λ x y. fault l x y) q r
 
 module _ {A B : Type 0} (r : Result A B) where
@@ -84,7 +62,8 @@ module _ (s : Scale) (room : Room) where
       (l : ℕ) (line : List ℕ) (st : State)
       → read-line s room l (fields line) st ≡ at-line l (passed (checks-of s room st line) (with-line st line))
   line-by-its-checks l line st =
-      comment-or-not (is-comment (fields line)) l (line-checks s room st (fields line) (st .stage)) st (after-line st (fields line) (st .stage))
+      comment-or-not (is-comment (fields line)) l (line-checks s room st (fields line) (st .stage)) st
+      (after-line st (fields line) (st .stage))
 
   -- lines without fault are read, and reading goes on
   pub past-faultless-lines :
@@ -97,28 +76,55 @@ module _ (s : Scale) (room : Room) where
       ∙ past-faultless-lines (l + 1) (with-line st line) ls more t
       ∙ ap (λ n. read-lines s room n more (with-lines (with-line st line) ls)) (omega arith)
 
-  refused-at-a-line : (l : ℕ) (st : State) (ls : List (List ℕ)) (f : Fault) → At-a-line s room l st ls f → read-lines s room l ls st ≡ Err f
+  refused-at-a-line :
+      (l : ℕ) (st : State) (ls : List (List ℕ)) (f : Fault) → At-a-line s room l st ls f → read-lines s room l ls st ≡ Err f
   refused-at-a-line l st ls f a =
       let here = with-lines st (a .earlier) in
+      let after = with-line here (a .faulty) in
       let n = l + length (a .earlier) in
       let first = a .first-of-its-line in
+      let c = first .failing in
       ap (λ x. read-lines s room l x st) (a .in-order)
       ∙ past-faultless-lines l st (a .earlier) (a .faulty ∷ a .later) (a .earlier-have-none)
       ∙ ap (then-lines (read-lines s room (n + 1) (a .later)))
         (line-by-its-checks n (a .faulty) here
-        ∙ ap (λ cs. at-line n (passed cs (with-line here (a .faulty)))) (first .in-order)
-        ∙ ap (at-line n) (passed-at-a-failing (first .earlier) (first .failing) (first .later) (with-line here (a .faulty)) (first .earlier-pass) (first .it-fails)))
-      ∙ ap Err (sym (fault-of-parts f n (first .failing .field-number) (first .failing .cause) (a .its-number) (first .its-field) (first .its-cause)))
+        ∙ ap (λ cs. at-line n (passed cs after)) (first .in-order)
+        ∙ ap (at-line n) (passed-at-a-failing (first .earlier) c (first .later) after (first .earlier-pass) (first .it-fails)))
+      ∙ ap Err (sym (fault-of-parts f n (c .field-number) (c .cause) (a .its-number) (first .its-field) (first .its-cause)))
+
+  fault-here :
+      (l : ℕ) (st : State) (line : List ℕ) (ls : List (List ℕ)) (field cause : ℕ)
+      → Fails-first (checks-of s room st line) field cause → At-a-line s room l st (line ∷ ls) (fault l field cause)
+  fault-here l st line ls field cause h = record {
+    earlier = [];
+    faulty = line;
+    later = ls;
+    in-order = refl;
+    its-number = omega arith;
+    earlier-have-none = tt;
+    first-of-its-line = h;
+  }
+
+  fault-later :
+      (l : ℕ) (st : State) (line : List ℕ) (ls : List (List ℕ)) (f : Fault) → All-pass (checks-of s room st line)
+      → At-a-line s room (l + 1) (with-line st line) ls f → At-a-line s room l st (line ∷ ls) f
+  fault-later l st line ls f h a = record {
+    earlier = line ∷ a .earlier;
+    faulty = a .faulty;
+    later = a .later;
+    in-order = ap (λ x. line ∷ x) (a .in-order);
+    its-number = a .its-number ∙ omega arith;
+    earlier-have-none = (h, a .earlier-have-none);
+    first-of-its-line = a .first-of-its-line;
+  }
 
   -- lines have a first fault, or none
   fault-or-none : (l : ℕ) (st : State) (ls : List (List ℕ)) → ((f : Fault) × At-a-line s room l st ls f) ⊎ No-fault s room st ls
   fault-or-none l st [] = inr tt
   fault-or-none l st (line ∷ ls) =
-      ⊎-elim
-      (λ r. inl (fault l (r .0) (r .1), record { earlier = []; faulty = line; later = ls; in-order = refl; its-number = omega arith; earlier-have-none = tt; first-of-its-line = r .2 }))
-      (λ h. ⊎-elim
-        (λ r. inl (r .0, record { earlier = line ∷ r .1 .earlier; faulty = r .1 .faulty; later = r .1 .later; in-order = ap (λ x. line ∷ x) (r .1 .in-order); its-number = r .1 .its-number ∙ omega arith; earlier-have-none = (h, r .1 .earlier-have-none); first-of-its-line = r .1 .first-of-its-line }))
-        (λ t. inr (h, t)) (fault-or-none (l + 1) (with-line st line) ls))
+      ⊎-elim (λ r. inl (fault l (r .0) (r .1), fault-here l st line ls (r .0) (r .1) (r .2)))
+      (λ h. ⊎-elim (λ r. inl (r .0, fault-later l st line ls (r .0) h (r .1))) (λ t. inr (h, t))
+        (fault-or-none (l + 1) (with-line st line) ls))
       (fails-or-passes (checks-of s room st line))
 
   pub past-all-lines :
@@ -152,7 +158,9 @@ module _ (s : Scale) (room : Room) where
         ⊎-elim (λ long. inl (fault 0 0 too-long, inl (long, refl)))
         (λ short. ⊎-elim (λ r. inl (r .0, inr (short, inl (r .1))))
           (λ none. ⊎-elim
-            (λ e. inl (fault (1 + length (lines text)) 1 letter-out-of-place, inr (short, inr record { lines-have-none = none; awaited = e; the-fault = refl })))
+            (λ e. inl
+              ( fault (1 + length (lines text)) 1 letter-out-of-place
+              , inr (short, inr record { lines-have-none = none; awaited = e; the-fault = refl }) ))
             (λ e. inr record { not-too-long = short; lines-have-none = none; nothing-awaited = e; what-is-read = refl })
             (cases-bool (awaits (at-the-end .stage))))
           (fault-or-none 1 nothing-read (lines text)))
@@ -160,13 +168,15 @@ module _ (s : Scale) (room : Room) where
 
     first-where-refused : (f : Fault) → read-text s room text ≡ Err f → First-fault s room text f
     first-where-refused f e =
-        ⊎-elim (λ r. subst (First-fault s room text) (same-error (read-text s room text) (r .0) f (refused (r .0) (r .1)) e) (r .1))
-        (λ good. absurd (not-both (read-text s room text) at-the-end f (accepted at-the-end good) e)) fault-or-faultless
+        let result = read-text s room text in
+        ⊎-elim (λ r. subst (First-fault s room text) (same-error result (r .0) f (refused (r .0) (r .1)) e) (r .1))
+        (λ good. absurd (not-both result at-the-end f (accepted at-the-end good) e)) fault-or-faultless
 
     none-where-accepted : (st : State) → read-text s room text ≡ Ok st → Faultless s room text st
     none-where-accepted st e =
-        ⊎-elim (λ r. absurd (not-both (read-text s room text) st (r .0) e (refused (r .0) (r .1))))
-        (λ good. subst (Faultless s room text) (same-value (read-text s room text) at-the-end st (accepted at-the-end good) e) good)
+        let result = read-text s room text in
+        ⊎-elim (λ r. absurd (not-both result st (r .0) e (refused (r .0) (r .1))))
+        (λ good. subst (Faultless s room text) (same-value result at-the-end st (accepted at-the-end good) e) good)
         fault-or-faultless
 
     pub fault-is-the-first : Fault-is-the-first s room text

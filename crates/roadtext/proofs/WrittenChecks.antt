@@ -1,13 +1,13 @@
 -- The checks of each kind of line pass where its fields write what they must. Assumes nothing.
 use mathlib.Core.Path.{_≡_, refl, sym, ap, ap₂, _∙_}
-use mathlib.Core.Bool.{Bool, true, false, not}
+use mathlib.Core.Bool.{true, false, not}
 use mathlib.Core.List.{List, [], _∷_}
 use Prim.Native.Nat.{ℕ, _%_, _<_, _≤_}
 use lib.Dec.{eqb, ltb}
 use Rattle.std.specs.declared.option.Option.the-variants.{Some}
 use Rattle.std.specs.Options.{isSome, valueOr}
 use Rattle.std.proofs.shelf.Tests.{and-from, eq-eqb, ne-eqb, lt-ltb, le-ltb}
-use Rattle.measure.specs.Scale.{Scale, Lawful}
+use Rattle.measure.specs.Scale.{Scale}
 use Rattle.drawing.specs.Edits.{within}
 use Rattle.roadtext.specs.declared.parts.Arc.{Arc}
 use Rattle.roadtext.specs.declared.parts.Two.{Two}
