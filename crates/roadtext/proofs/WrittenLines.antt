@@ -1,12 +1,11 @@
 -- Each written line passes its checks, and adds to what has been read what it says. Assumes nothing.
 use mathlib.Core.Path.{_≡_, refl, sym, ap, ap₂, _∙_, subst}
 use mathlib.Core.Bool.{false, cond, not, _||_}
-use mathlib.Core.List.{List, [], _∷_, _++_, map}
+use mathlib.Core.List.{List, [], _∷_, _++_}
 use Prim.Native.Nat.{ℕ, _-_, _%_, _^_, _<_, _≤_}
 use native.Mathlib.Omega.{arith}
 use lib.Dec.{leb}
 use lib.ListN.{length}
-use Rattle.std.specs.shelf.Lists.{All}
 use Rattle.std.specs.Written.{decimal}
 use Rattle.std.proofs.shelf.Elements.{all-append}
 use Rattle.std.proofs.shelf.Tests.{or-from, lt-leb}
@@ -19,9 +18,9 @@ use Rattle.roadtext.specs.Text.{fields}
 use Rattle.roadtext.specs.Lines.{check, no-twin, a-checks, q-checks, arc-in, two-in}
 use Rattle.roadtext.specs.Reading.{State, nothing-read, Room, is-comment, is-twin, line-checks, arcs-to-come, after-line}
 use Rattle.roadtext.specs.FirstFault.{checks-of, with-line, All-pass}
-use Rattle.roadtext.specs.Written.{spaced, head-line, arc-line, Lacks, Junction-of, Writable-road}
-use Rattle.roadtext.proofs.WrittenNumbers.{number-decimal, decimals-lack}
-use Rattle.roadtext.proofs.WrittenFields.{fields-of-spaced}
+use Rattle.roadtext.specs.Written.{spaced, head-line, arc-line, Junction-of, Writable-road}
+use Rattle.roadtext.proofs.WrittenNumbers.{number-decimal}
+use Rattle.roadtext.proofs.WrittenFields.{fields-of-spaced, head-line-lacks, fields-of-letter-line}
 use Rattle.roadtext.proofs.WrittenChecks.{Writes, head-fields, arc-fields, two-fields, its-value, head-passes, arc-passes, arc-is-read}
 use Rattle.roadtext.proofs.WrittenChecks.{turned, turned-is-twin, turned-is-writable, move-passes, ask-passes, two-is-read}
 
@@ -43,39 +42,24 @@ line-of-two letter m = spaced (letter ∷ []) (decimal (m .left) ∷ decimal (m 
 abbrev words-of-two : ℕ → Two → List (List ℕ)
 words-of-two letter m = two-fields letter (decimal (m .left)) (decimal (m .right))
 
--- the fields of a line of a letter and numbers lack a byte that is neither the letter nor a digit
-pub letter-line-lacks :
-    (byte letter : ℕ) → byte < 48 → (letter ≡ byte → ⊥) → (ns : List ℕ) → All (λ n. n < 10 ^ 10) ns
-    → All (Lacks byte) ((letter ∷ []) ∷ map decimal ns)
-letter-line-lacks byte letter low other ns small = ((other, tt), decimals-lack byte low ns small)
-
-pub head-line-lacks :
-    (byte : ℕ) → byte < 48 → (n a : ℕ) → n < 10 ^ 10 → a < 10 ^ 10 → All (Lacks byte) (head-fields (decimal n) (decimal a))
-head-line-lacks byte low n a h k =
-    ((λ e. omega arith, tt), ((λ e. omega arith, (λ e. omega arith, tt)), decimals-lack byte low (n ∷ a ∷ []) (h, (k, tt))))
-
-pub fields-of-letter-line :
-    (letter : ℕ) → (letter ≡ 32 → ⊥) → (ns : List ℕ) → All (λ n. n < 10 ^ 10) ns
-    → fields (spaced (letter ∷ []) (map decimal ns)) ≡ (letter ∷ []) ∷ map decimal ns
-fields-of-letter-line letter other ns small =
-    fields-of-spaced (letter ∷ []) (map decimal ns) (letter-line-lacks 32 letter (omega arith) other ns small)
+-- the line has no fault, and this has been read after it
+pub record Adds (s : Scale) (room : Room) (st : State) (line : List ℕ) (after : State) : Type 0 where
+  pub no-fault : All-pass (checks-of s room st line)
+  pub is-read : with-line st line ≡ after
 
 module _ (s : Scale) (room : Room) where
-  -- the line has no fault, and this has been read after it
-  abbrev pub Adds : State → List ℕ → State → Type 0
-  Adds st line after = All-pass (checks-of s room st line) × (with-line st line ≡ after)
-
   by-its-fields :
       (st : State) (line : List ℕ) (fs : List (List ℕ)) (after : State) → fields line ≡ fs
       → All-pass (cond (is-comment fs) [] (line-checks s room st fs (st .stage)))
-      → cond (is-comment fs) st (after-line st fs (st .stage)) ≡ after → Adds st line after
-  by-its-fields st line fs after e h k =
-      ( subst (λ x. All-pass (cond (is-comment x) [] (line-checks s room st x (st .stage)))) (sym e) h
-      , ap (λ x. cond (is-comment x) st (after-line st x (st .stage))) e ∙ k )
+      → cond (is-comment fs) st (after-line st fs (st .stage)) ≡ after → Adds s room st line after
+  by-its-fields st line fs after e h k = record {
+    no-fault = subst (λ x. All-pass (cond (is-comment x) [] (line-checks s room st x (st .stage)))) (sym e) h;
+    is-read = ap (λ x. cond (is-comment x) st (after-line st x (st .stage))) e ∙ k;
+  }
 
   pub head-adds :
       (n a : ℕ) → Junction-of 4096 n → n ≤ room .places → a % 2 ≡ 0 → a < 10 ^ 10
-      → Adds nothing-read (head-line n a) (reading (arcs-to-come a) n [] [] [])
+      → Adds s room nothing-read (head-line n a) (reading (arcs-to-come a) n [] [] [])
   head-adds n a few fits even small =
       let p = number-decimal n (omega arith) in
       let q = number-decimal a small in
@@ -117,7 +101,7 @@ module _ (s : Scale) (room : Room) where
 
       pub arc-adds :
           (a : Arc) → Writable-road s n a → (k : ℕ)
-          → Adds (reading (ArcAwaited k) n roads moves asks) (line-of-arc a) (reading (Twin a (k - 2)) n roads moves asks)
+          → Adds s room (reading (ArcAwaited k) n roads moves asks) (line-of-arc a) (reading (Twin a (k - 2)) n roads moves asks)
       arc-adds a road k =
           by-its-fields (at (ArcAwaited k)) (line-of-arc a) (words-of-arc a) (at (Twin a (k - 2)))
           (fields-of-arc a road) (refl, checks-of-arc a road) (ap (λ y. at (Twin y (k - 2))) (arc-of-line a road))
@@ -129,7 +113,7 @@ module _ (s : Scale) (room : Room) where
 
       pub twin-adds :
           (a : Arc) → Writable-road s n a → (k : ℕ) → length roads < 16384 → length roads < room .records
-          → Adds (reading (Twin a k) n roads moves asks) (line-of-arc (turned a))
+          → Adds s room (reading (Twin a k) n roads moves asks) (line-of-arc (turned a))
           (reading (arcs-to-come k) n (roads ++ (a ∷ [])) moves asks)
       twin-adds a road k h j =
           let back = turned-is-writable s n a road in
@@ -155,7 +139,7 @@ module _ (s : Scale) (room : Room) where
 
       pub move-adds :
           (m : Two) → Junction-of n (m .left) → m .right < 64
-          → Adds (reading Tail n roads moves asks) (line-of-two 100 m) (reading Tail n roads (moves ++ (m ∷ [])) asks)
+          → Adds s room (reading Tail n roads moves asks) (line-of-two 100 m) (reading Tail n roads (moves ++ (m ∷ [])) asks)
       move-adds m h k =
           let left : m .left < 10 ^ 10 = omega arith in
           let right : m .right < 10 ^ 10 = omega arith in
@@ -181,11 +165,11 @@ module _ (s : Scale) (room : Room) where
         ask-of-line = ap with-ask (two-of-line 113 (λ e. omega arith) q (omega arith) (omega arith))
 
         pub first-ask-adds :
-            Adds (reading Tail n roads moves asks) (line-of-two 113 q) (reading Asks n roads moves (asks ++ (q ∷ [])))
+            Adds s room (reading Tail n roads moves asks) (line-of-two 113 q) (reading Asks n roads moves (asks ++ (q ∷ [])))
         first-ask-adds =
             by-its-fields (at Tail) (line-of-two 113 q) (words-of-two 113 q) (with-ask q) fields-of-ask (refl, checks-of-ask) ask-of-line
 
         pub ask-adds :
-            Adds (reading Asks n roads moves asks) (line-of-two 113 q) (reading Asks n roads moves (asks ++ (q ∷ [])))
+            Adds s room (reading Asks n roads moves asks) (line-of-two 113 q) (reading Asks n roads moves (asks ++ (q ∷ [])))
         ask-adds =
             by-its-fields (at Asks) (line-of-two 113 q) (words-of-two 113 q) (with-ask q) fields-of-ask (refl, checks-of-ask) ask-of-line

@@ -64,16 +64,25 @@ Lacks byte bs = All (λ b. b ≡ byte → ⊥) bs
 abbrev pub without-comments : List (List ℕ) → List (List ℕ)
 without-comments ls = kept-by (λ l. not (is-comment (fields l))) ls
 
--- v is one of n junctions
+-- v is one of the junctions 1 to n
 abbrev pub Junction-of : ℕ → ℕ → Type 0
 Junction-of n v = (1 ≤ v) × (v ≤ n)
 
+-- a road between two junctions, with a lawful value that a field can write
 pub record Writable-road (s : Scale) (n : ℕ) (a : Arc) : Type 0 where
   pub from-a-junction : Junction-of n (a .from)
   pub to-a-junction : Junction-of n (a .to)
   pub ends-differ : a .from ≡ a .to → ⊥
   pub lawful-worth : Lawful s (a .worth)
   pub at-most-ten-digits : a .worth < 10 ^ 10
+
+-- a junction and one of 64 districts
+abbrev pub Writable-move : ℕ → Two → Type 0
+Writable-move n m = Junction-of n (m .left) × (m .right < 64)
+
+-- two junctions
+abbrev pub Writable-ask : ℕ → Two → Type 0
+Writable-ask n q = Junction-of n (q .left) × Junction-of n (q .right)
 
 -- The network is within the limits, and there is room for it; the asks are of its junctions.
 pub record Writable (s : Scale) (room : Room) (n : ℕ) (roads : List Arc) (moves asks : List Two) : Type 0 where
@@ -83,8 +92,8 @@ pub record Writable (s : Scale) (room : Room) (n : ℕ) (roads : List Arc) (move
   pub few-roads : length roads ≤ 16384
   pub enough-records : length roads ≤ room .records
   pub each-road : All (Writable-road s n) roads
-  pub each-move : All (λ m. Junction-of n (m .left) × (m .right < 64)) moves
-  pub each-ask : All (λ q. Junction-of n (q .left) × Junction-of n (q .right)) asks
+  pub each-move : All (Writable-move n) moves
+  pub each-ask : All (Writable-ask n) asks
 
 -- what has been read is this network and these asks
 pub record Is-read (s : Scale) (room : Room) (text : List ℕ) (n : ℕ) (roads : List Arc) (moves asks : List Two) : Type 0 where
