@@ -1,5 +1,5 @@
--- That every network within the limits, and every list of asks, written out as text, is read back, whatever comments stand
--- between its lines. Assumes nothing.
+-- That a network within the limits and its asks, written out as a text of at most 65,536 bytes, are read back, whatever
+-- comments stand between the lines. Assumes nothing.
 use mathlib.Core.Path.{_≡_}
 use mathlib.Core.Bool.{not}
 use mathlib.Core.List.{List, [], _∷_, _++_, map}

@@ -13,7 +13,8 @@ pub fn fault_is_the_first<M: Measure>()
     ensures { λ _. ⌜ ((room : Room) (text : List ℕ) → Fault-is-the-first (M·Measure .scale) room text) ⌝ }
 {}
 
-// Every network within the limits and every list of asks, written out as text, is read back, whatever comments stand between.
+// A network within the limits and its asks, written out as a text of at most 65,536 bytes, are read back, whatever comments
+// stand between the lines.
 pub fn written_networks_read_back<M: Measure>()
     ensures { λ _. ⌜ ((room : Room) (n : ℕ) (roads : List Arc) (moves asks : List Two) → Writable (M·Measure .scale) room n roads moves asks → Reads-back (M·Measure .scale) room n roads moves asks) ⌝ }
 {}
