@@ -3,3 +3,5 @@ pub mod Lines
 pub mod Reading
 pub mod Read
 pub mod Answer
+pub mod FirstFault
+pub mod Written

@@ -6,6 +6,7 @@ mod lines;
 mod outcome;
 mod parts;
 mod reading;
+mod theorems;
 
 pub use answer::answer_line;
 pub use outcome::Reading;
@@ -13,3 +14,5 @@ pub use outcome::Unread;
 pub use parts::Arc;
 pub use parts::Two;
 pub use reading::read;
+pub use theorems::fault_is_the_first;
+pub use theorems::written_networks_read_back;
