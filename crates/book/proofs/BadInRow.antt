@@ -1,0 +1,48 @@
+-- The words of an entry, each bad or not, and the search over the entries of a row and over the rows. Assumes nothing.
+use mathlib.Core.Path.{_≡_, refl, sym, ap, _∙_, subst}
+use mathlib.Core.Bool.{Bool, true, false, cond, not, _&&_, _||_}
+use mathlib.Core.List.{List}
+use mathlib.Core.Logic.{_⊎_, inl, inr, ⊎-elim}
+use Prim.Native.Nat.{ℕ, suc, _+_, _-_, _*_, _/_, _%_, _≤_, _<_}
+use native.Mathlib.Omega.{arith}
+use lib.Dec.{eqb, leb}
+use Rattle.std.specs.declared.option.Option.the-variants.{Some, None}
+use Rattle.std.proofs.shelf.Tests.{cases-lt, cases-eq}
+use Rattle.measure.specs.Scale.{Scale}
+use Rattle.book.specs.declared.counts.Counts.{Counts}
+use Rattle.book.specs.declared.names.Names.{Names}
+use Rattle.book.specs.Bad.{offset, entry-word, right-name, row-of, begins-a-row, bad-name, bad-value, bad-entry, Finds}
+use Rattle.book.specs.InRow.{Lies, bad-name-in}
+use Rattle.book.specs.Ready.{Ready, Good-offsets}
+use Rattle.book.proofs.RowsOfEntries.{row-of-an-entry, begins-at-the-offset}
+
+module _ (s : Scale) (ws : List ℕ) (c : Counts) (names : Names) where
+  -- word 2 e has the name of entry number e
+  pub at-a-name : (e : ℕ) → bad-entry s ws c names (2 * e) ≡ bad-name ws c names e
+  at-a-name e =
+      let even : (2 * e) % 2 ≡ 0 = omega arith in
+      let half : (2 * e) / 2 ≡ e = omega arith in
+      rw (even, half)
+
+  -- word 2 e + 1 has its value
+  pub at-a-value : (e : ℕ) → bad-entry s ws c names (2 * e + 1) ≡ bad-value s (entry-word ws c names (2 * e + 1))
+  at-a-value e = let odd : (2 * e + 1) % 2 ≡ 1 = omega arith in rw odd
+
+-- the name of an entry in a row
+pub at-a-name-in : (s : Scale) {ws : List ℕ} {c : Counts} {names : Names} {v from to : ℕ} → Ready ws c → Good-offsets ws c names → Lies ws c names v from to → (e : ℕ) → from ≤ e → e < to → bad-entry s ws c names (2 * e) ≡ bad-name-in ws c names v from e
+at-a-name-in s {ws} {c} {names} {v} {from} {to} ready good lies e low high =
+    let after : offset ws c names (v - 1) ≤ e = omega arith in
+    let before : e < offset ws c names v = omega arith in
+    let row = row-of-an-entry ws c names ready good v e (lies .some-junction) (lies .no-other) after before in
+    let begins = begins-at-the-offset ws c names ready good v e (lies .some-junction) (lies .no-other) after before in
+    at-a-name s ws c names e ∙ rw (row, begins, lies .begins)
+
+-- what fails from low up to i and at i fails up to i + 1
+pub one-word-more : (test : ℕ → Bool) (low i : ℕ) → Finds test low i None → test i ≡ false → Finds test low (i + 1) None
+one-word-more test low i before here j l h =
+    ⊎-elim (λ k. before j l k) (λ k. let same : j ≡ i = omega arith in rw same here) (cases-lt j i)
+
+-- what fails from low up to 2 e, at 2 e and at 2 e + 1 fails up to 2 (e + 1)
+pub one-entry-more : (test : ℕ → Bool) (low e : ℕ) → Finds test low (2 * e) None → test (2 * e) ≡ false → test (2 * e + 1) ≡ false → Finds test low (2 * (e + 1)) None
+one-entry-more test low e before name value j l h =
+    one-word-more test low (2 * e + 1) (one-word-more test low (2 * e) before name) value j l (omega arith)
