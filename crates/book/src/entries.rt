@@ -107,11 +107,10 @@ pub(crate) fn bad_entry<M: Measure>(words: &[u64], counts: &Counts, names: Names
     ensures { λ r. ⌜ Finds (bad-entry (M·Measure .scale) (now (words .entry)) (now (counts .entry)) names) 0 (2 * entry-count (now (counts .entry)) names) r ⌝ }
 {
     let mut from = 0;
-    for junction in 1..=counts.junctions {
+    for junction in 1..counts.junctions + 1 {
         let to = offset_word(words, counts, names, junction);
-        let bad = bad_in_row::<M>(words, counts, names, junction, from, to);
-        if bad.is_some() {
-            return bad;
+        if let Some(place) = bad_in_row::<M>(words, counts, names, junction, from, to) {
+            return Some(place);
         }
         from = to;
     }
