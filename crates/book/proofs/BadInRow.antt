@@ -1,17 +1,16 @@
--- The words of an entry, each bad or not, and the search over the entries of a row and over the rows. Assumes nothing.
-use mathlib.Core.Path.{_≡_, refl, sym, ap, _∙_, subst}
-use mathlib.Core.Bool.{Bool, true, false, cond, not, _&&_, _||_}
+-- What the tests on the two words of an entry tell, and a search that goes on. Assumes nothing.
+use mathlib.Core.Path.{_≡_, sym, _∙_}
+use mathlib.Core.Bool.{Bool, false}
 use mathlib.Core.List.{List}
-use mathlib.Core.Logic.{_⊎_, inl, inr, ⊎-elim}
-use Prim.Native.Nat.{ℕ, suc, _+_, _-_, _*_, _/_, _%_, _≤_, _<_}
+use mathlib.Core.Logic.{⊎-elim}
+use Prim.Native.Nat.{ℕ, _+_, _-_, _*_, _/_, _%_, _≤_, _<_}
 use native.Mathlib.Omega.{arith}
-use lib.Dec.{eqb, leb}
 use Rattle.std.specs.declared.option.Option.the-variants.{Some, None}
-use Rattle.std.proofs.shelf.Tests.{cases-lt, cases-eq}
+use Rattle.std.proofs.shelf.Tests.{cases-lt}
 use Rattle.measure.specs.Scale.{Scale}
 use Rattle.book.specs.declared.counts.Counts.{Counts}
 use Rattle.book.specs.declared.names.Names.{Names}
-use Rattle.book.specs.Bad.{offset, entry-word, right-name, row-of, begins-a-row, bad-name, bad-value, bad-entry, Finds}
+use Rattle.book.specs.Bad.{offset, entry-word, bad-name, bad-value, bad-entry, Finds}
 use Rattle.book.specs.InRow.{Lies, bad-name-in}
 use Rattle.book.specs.Ready.{Ready, Good-offsets}
 use Rattle.book.proofs.RowsOfEntries.{row-of-an-entry, begins-at-the-offset}
@@ -28,14 +27,19 @@ module _ (s : Scale) (ws : List ℕ) (c : Counts) (names : Names) where
   pub at-a-value : (e : ℕ) → bad-entry s ws c names (2 * e + 1) ≡ bad-value s (entry-word ws c names (2 * e + 1))
   at-a-value e = let odd : (2 * e + 1) % 2 ≡ 1 = omega arith in rw odd
 
--- the name of an entry in a row
-pub at-a-name-in : (s : Scale) {ws : List ℕ} {c : Counts} {names : Names} {v from to : ℕ} → Ready ws c → Good-offsets ws c names → Lies ws c names v from to → (e : ℕ) → from ≤ e → e < to → bad-entry s ws c names (2 * e) ≡ bad-name-in ws c names v from e
-at-a-name-in s {ws} {c} {names} {v} {from} {to} ready good lies e low high =
+-- a test of a name in a row tells whether its word is bad
+pub name-tells : (s : Scale) {ws : List ℕ} {c : Counts} {names : Names} {v from to : ℕ} → Ready ws c → Good-offsets ws c names → Lies ws c names v from to → (e : ℕ) → from ≤ e → e < to → (r : Bool) → r ≡ bad-name-in ws c names v from e → bad-entry s ws c names (2 * e) ≡ r
+name-tells s {ws} {c} {names} {v} {from} {to} ready good lies e low high r is =
     let after : offset ws c names (v - 1) ≤ e = omega arith in
     let before : e < offset ws c names v = omega arith in
     let row = row-of-an-entry ws c names ready good v e (lies .some-junction) (lies .no-other) after before in
     let begins = begins-at-the-offset ws c names ready good v e (lies .some-junction) (lies .no-other) after before in
-    at-a-name s ws c names e ∙ rw (row, begins, lies .begins)
+    let here : bad-name ws c names e ≡ bad-name-in ws c names v from e = rw (row, begins, lies .begins) in
+    at-a-name s ws c names e ∙ here ∙ sym is
+
+-- a test of the value x of an entry tells whether its word is bad
+pub value-tells : (s : Scale) (ws : List ℕ) (c : Counts) (names : Names) (e x : ℕ) → x ≡ entry-word ws c names (2 * e + 1) → (r : Bool) → r ≡ bad-value s x → bad-entry s ws c names (2 * e + 1) ≡ r
+value-tells s ws c names e x same r is = at-a-value s ws c names e ∙ rw (← same) (sym is)
 
 -- what fails from low up to i and at i fails up to i + 1
 pub one-word-more : (test : ℕ → Bool) (low i : ℕ) → Finds test low i None → test i ≡ false → Finds test low (i + 1) None
