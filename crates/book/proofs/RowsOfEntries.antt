@@ -1,23 +1,22 @@
 -- Which row an entry is in, and whether it begins the row, where no offset is bad. Assumes nothing.
-use mathlib.Core.Path.{_≡_, refl, sym, ap, _∙_, subst}
-use mathlib.Core.Bool.{Bool, true, false, cond, not, _&&_, _||_}
+use mathlib.Core.Path.{_≡_, refl, sym, ap, _∙_}
+use mathlib.Core.Bool.{true, false, cond, not, _&&_}
 use mathlib.Core.List.{List, [], _∷_}
-use mathlib.Core.Logic.{_⊎_, inl, inr, ⊎-elim}
-use Prim.Native.Nat.{ℕ, zero, suc, _+_, _-_, _*_, min, _≤_, _<_}
-use native.Mathlib.Nat.{le-of-suc-le-suc, eq-or-lt-of-le}
+use mathlib.Core.Logic.{⊎-elim}
+use Prim.Native.Nat.{ℕ, zero, suc, _+_, _-_, _≤_, _<_}
+use native.Mathlib.Nat.{eq-or-lt-of-le}
 use native.Mathlib.Omega.{arith}
 use lib.Dec.{eqb, leb, ltb}
-use lib.ListN.{length, getD, take, drop, length-take, length-drop}
+use lib.ListN.{length, getD, length-take, length-drop}
 use lib.Seq.{getD-take, getD-drop}
 use Rattle.std.specs.shelf.Lists.{kept-by}
-use Rattle.std.specs.Orderings.{Decides}
 use Rattle.std.proofs.shelf.Tests.{le-leb, lt-leb, ltb-false, cases-eq, cases-lt, eq-eqb, ne-eqb, or-parts}
-use Rattle.std.proofs.shelf.Ways.{tells, same-from-decides, decides-eqb, decides-by-or}
+use Rattle.std.proofs.shelf.Ways.{tells}
 use Rattle.book.specs.declared.counts.Counts.{Counts}
 use Rattle.book.specs.declared.names.Names.{Names}
 use Rattle.book.specs.declared.names.Names.the-variants.{Ranks, Hubs}
-use Rattle.book.specs.Layout.{word, total, words-in}
-use Rattle.book.specs.Bad.{among, offsets-at, entry-count, offset, bad-offset, begins-a-row, row-of}
+use Rattle.book.specs.Layout.{words-in}
+use Rattle.book.specs.Bad.{among, offsets-at, entry-count, offset, begins-a-row, row-of}
 use Rattle.book.specs.Ready.{Ready, Good-offsets}
 
 -- where just the first v of a list are at most e, a test for that keeps v of them
@@ -80,9 +79,8 @@ module _ (ws : List ℕ) (c : Counts) (names : Names) (good : Good-offsets ws c 
   offsets-begin-at-zero =
       begins 0 _ (offset ws c names 0) (or-parts _ _ (or-parts _ _ (good 0 (omega arith)) .0) .0) refl
 
-  pub offsets-end-at-the-count : offset ws c names (c .junctions) ≡ entry-count c names
-  offsets-end-at-the-count =
-      ends (c .junctions) (c .junctions) _ _ (or-parts _ _ (good (c .junctions) (omega arith)) .1) refl
+  pub offsets-end-at-the-count : (j : ℕ) → j ≡ c .junctions → offset ws c names j ≡ entry-count c names
+  offsets-end-at-the-count j last = ends j (c .junctions) _ _ (or-parts _ _ (good j (omega arith)) .1) last
 
   pub offset-within : (j : ℕ) → j ≤ c .junctions → offset ws c names j ≤ entry-count c names
   offset-within j h = ltb-false _ _ (or-parts _ _ (or-parts _ _ (good j h) .0) .1)
@@ -96,11 +94,11 @@ module _ (ws : List ℕ) (c : Counts) (names : Names) (good : Good-offsets ws c 
   offsets-ascend i (suc j) h k =
       ⊎-elim (λ e. rw e (omega arith))
       (λ lt.
-        let a : offset ws c names i ≤ offset ws c names j = offsets-ascend i j (omega arith) (omega arith) in
-        let b : offset ws c names (suc j - 1) ≤ offset ws c names (suc j) = next-offset (suc j) (omega arith) k in
-        let e : suc j - 1 ≡ j = omega arith in
-        let d : offset ws c names j ≤ offset ws c names (suc j) = rw e at b in
-        omega arith)
+      let a : offset ws c names i ≤ offset ws c names j = offsets-ascend i j (omega arith) (omega arith) in
+      let b : offset ws c names (suc j - 1) ≤ offset ws c names (suc j) = next-offset (suc j) (omega arith) k in
+      let e : suc j - 1 ≡ j = omega arith in
+      let d : offset ws c names j ≤ offset ws c names (suc j) = rw e at b in
+      omega arith)
       (eq-or-lt-of-le h)
 
 -- Entry number e is in the row of junction v: it lies from offset number v - 1 up to offset number v.
@@ -124,13 +122,13 @@ module _ (ws : List ℕ) (c : Counts) (names : Names) (ready : Ready ws c) (good
       let os = words-in (offsets-at c names) ws in
       ⊎-elim
       (λ same.
-        among-at e os (v - 1) (omega arith) (rw (offset-at ws c names ready (v - 1) (omega arith)) same)
-        ∙ sym (eq-eqb e (offset ws c names (v - 1)) same))
+      among-at e os (v - 1) (omega arith) (rw (offset-at ws c names ready (v - 1) (omega arith)) same)
+      ∙ sym (eq-eqb e (offset ws c names (v - 1)) same))
       (λ other.
-        not-among e os
-        (λ j h same.
-          let here : e ≡ offset ws c names j = same ∙ offset-at ws c names ready j (omega arith) in
-          ⊎-elim (λ lt. let a = before-it j lt in other (omega arith)) (λ le. let a = after-it j le (omega arith) in omega arith)
-          (cases-lt j v))
-        ∙ sym (ne-eqb e (offset ws c names (v - 1)) other))
+      not-among e os
+      (λ j h same.
+      let here : e ≡ offset ws c names j = same ∙ offset-at ws c names ready j (omega arith) in
+      ⊎-elim (λ lt. let a = before-it j lt in other (omega arith)) (λ le. let a = after-it j le (omega arith) in omega arith)
+      (cases-lt j v))
+      ∙ sym (ne-eqb e (offset ws c names (v - 1)) other))
       (cases-eq e (offset ws c names (v - 1)))

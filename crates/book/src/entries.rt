@@ -1,8 +1,6 @@
 // The first bad word of the entries of a book.
 ghost use mathlib.Core.Path.{_≡_};
-ghost use mathlib.Core.Bool.{true};
-ghost use Prim.Native.Nat.{_+_, _-_, _*_, _<_, _≤_};
-ghost use lib.Dec.{leb};
+ghost use Prim.Native.Nat.{_+_, _*_, _<_, _≤_};
 ghost use lib.ListN.{length};
 ghost use Rattle.book.specs.Layout.{word};
 ghost use Rattle.book.specs.Bad.{offset, entry-word, entry-count, right-name, bad-value, bad-entry, Finds};
@@ -47,7 +45,8 @@ fn is_right_name(words: &[u64], counts: &Counts, names: Names, junction: u64, na
         Names::Hubs => {
             1 <= name
                 && name <= counts.junctions
-                && word_of(words, counts.places(), name - 1) == word_of(words, counts.places(), junction - 1)
+                && word_of(words, counts.places(), name - 1)
+                    == word_of(words, counts.places(), junction - 1)
         }
     }
 }
@@ -107,7 +106,7 @@ pub(crate) fn bad_entry<M: Measure>(words: &[u64], counts: &Counts, names: Names
     ensures { λ r. ⌜ Finds (bad-entry (M·Measure .scale) (now (words .entry)) (now (counts .entry)) names) 0 (2 * entry-count (now (counts .entry)) names) r ⌝ }
 {
     let mut from = 0;
-    for junction in 1..counts.junctions + 1 {
+    for junction in 1..=counts.junctions {
         let to = offset_word(words, counts, names, junction);
         if let Some(place) = bad_in_row::<M>(words, counts, names, junction, from, to) {
             return Some(place);
