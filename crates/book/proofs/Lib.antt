@@ -1,0 +1,2 @@
+pub mod RowsOfEntries
+pub mod BadInRow

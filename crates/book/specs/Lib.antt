@@ -2,5 +2,6 @@ pub mod Layout
 pub mod Words
 pub mod Bad
 pub mod Ready
+pub mod InRow
 pub mod Opened
 pub mod Cases
