@@ -8,9 +8,11 @@ mod opening;
 mod rows;
 mod sections;
 mod span;
+mod written;
 
 pub use counts::Counts;
 pub use names::Names;
 pub use opened::Book;
 pub use opening::open;
 pub use span::Span;
+pub use written::words_are_a_book;
