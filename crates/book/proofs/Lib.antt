@@ -1,1 +1,3 @@
 pub mod LaidEndToEnd
+pub mod RisingOffsets
+pub mod RowOffsets
