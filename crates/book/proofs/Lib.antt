@@ -1,3 +1,5 @@
 pub mod LaidEndToEnd
 pub mod RisingOffsets
 pub mod RowOffsets
+pub mod RowsInWords
+pub mod GoodEntries
