@@ -3,3 +3,7 @@ pub mod RisingOffsets
 pub mod RowOffsets
 pub mod RowsInWords
 pub mod GoodEntries
+pub mod BookLimits
+pub mod NothingBad
+pub mod BookSections
+pub mod BookLaidOut
