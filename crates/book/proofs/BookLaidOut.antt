@@ -16,7 +16,7 @@ use Rattle.book.proofs.LaidEndToEnd.{length-entry-words}
 use Rattle.book.proofs.RowOffsets.{length-offsets}
 use Rattle.book.proofs.RowsInWords.{Rows-lie}
 use Rattle.book.proofs.BookLimits.{as-many-rows-as-junctions}
-use Rattle.book.proofs.BookSections.{laid, length-laid, laid-is-longer, first-section, second-section, third-section, fourth-section, fifth-section, sixth-section}
+use Rattle.book.proofs.BookSections.{laid, length-laid, laid-is-no-longer, Six-sections, six-sections}
 
 -- the words ws begin with the book of the network: each count, and each section
 pub record Laid-out (s : Scale) (net : Network) (order ws : List ℕ) : Type 0 where
@@ -77,52 +77,38 @@ module _ (s : Scale) (net : Network) (long : length (net .places) ≡ net .junct
       length-entry-words (all-entries (border-rows s net order)), length-entry-words (all-entries (district-rows s net)),
       length-laid front (net .places) order border-offsets border-words district-offsets district-words [])
 
-  module _ (more : List ℕ) where
-    pub words-are-laid-out : Laid-out s net order (words s net order ++ more)
-    words-are-laid-out =
-        let n : ℕ = net .junctions in
-        let k : ℕ = length (all-entries (border-rows s net order)) in
-        let l : ℕ = length (all-entries (district-rows s net)) in
-        record {
-          number-is = refl;
-          tag-is = refl;
-          junctions-are = refl;
-          districts-are = refl;
-          borders-are = refl;
-          border-entries-are = refl;
-          district-entries-are = refl;
-          words-are = refl;
-          words-are-there = omega (arith, book-size-is, laid-is-longer front (net .places) order border-offsets border-words district-offsets district-words more);
-          places-lie =
-              first-section front (net .places) order border-offsets border-words district-offsets district-words more
-              8 n (length order) (n + 1) (2 * k) (n + 1) (2 * l) refl long refl border-offsets-are-long
-              (length-entry-words (all-entries (border-rows s net order))) district-offsets-are-long (length-entry-words (all-entries (district-rows s net)));
-          order-lies =
-              second-section front (net .places) order border-offsets border-words district-offsets district-words more
-              8 n (length order) (n + 1) (2 * k) (n + 1) (2 * l) refl long refl border-offsets-are-long
-              (length-entry-words (all-entries (border-rows s net order))) district-offsets-are-long (length-entry-words (all-entries (district-rows s net)));
-          border-rows-lie = record {
-            offsets-lie =
-                third-section front (net .places) order border-offsets border-words district-offsets district-words more
-                8 n (length order) (n + 1) (2 * k) (n + 1) (2 * l) refl long refl border-offsets-are-long
-                (length-entry-words (all-entries (border-rows s net order))) district-offsets-are-long (length-entry-words (all-entries (district-rows s net)));
-            entries-lie =
-                fourth-section front (net .places) order border-offsets border-words district-offsets district-words more
-                8 n (length order) (n + 1) (2 * k) (n + 1) (2 * l) refl long refl border-offsets-are-long
-                (length-entry-words (all-entries (border-rows s net order))) district-offsets-are-long (length-entry-words (all-entries (district-rows s net)));
-            as-many-rows = sym (as-many-rows-as-junctions (border-row s net order) n);
-            as-many-entries = refl;
-          };
-          district-rows-lie = record {
-            offsets-lie =
-                fifth-section front (net .places) order border-offsets border-words district-offsets district-words more
-                8 n (length order) (n + 1) (2 * k) (n + 1) (2 * l) refl long refl border-offsets-are-long
-                (length-entry-words (all-entries (border-rows s net order))) district-offsets-are-long (length-entry-words (all-entries (district-rows s net)));
-            entries-lie =
-                sixth-section front (net .places) order border-offsets border-words district-offsets district-words more
-                8 n (length order) (n + 1) (2 * k) (n + 1) (2 * l) refl long refl border-offsets-are-long
-                (length-entry-words (all-entries (border-rows s net order))) district-offsets-are-long (length-entry-words (all-entries (district-rows s net)));
-            as-many-rows = sym (as-many-rows-as-junctions (district-row s net) n);
-            as-many-entries = refl;
-          };
-        }
+  pub words-are-laid-out : (more : List ℕ) → Laid-out s net order (words s net order ++ more)
+  words-are-laid-out more =
+      let n : ℕ = net .junctions in
+      let k : ℕ = length (all-entries (border-rows s net order)) in
+      let l : ℕ = length (all-entries (district-rows s net)) in
+      let there = six-sections front (net .places) order border-offsets border-words district-offsets district-words more
+      8 n (length order) (n + 1) (2 * k) (n + 1) (2 * l) refl long refl border-offsets-are-long
+      (length-entry-words (all-entries (border-rows s net order))) district-offsets-are-long
+      (length-entry-words (all-entries (district-rows s net))) in
+      record {
+        number-is = refl;
+        tag-is = refl;
+        junctions-are = refl;
+        districts-are = refl;
+        borders-are = refl;
+        border-entries-are = refl;
+        district-entries-are = refl;
+        words-are = refl;
+        words-are-there =
+            omega (arith, book-size-is, laid-is-no-longer front (net .places) order border-offsets border-words district-offsets district-words more);
+        places-lie = there .first-is;
+        order-lies = there .second-is;
+        border-rows-lie = record {
+          offsets-lie = there .third-is;
+          entries-lie = there .fourth-is;
+          as-many-rows = sym (as-many-rows-as-junctions (border-row s net order) n);
+          as-many-entries = refl;
+        };
+        district-rows-lie = record {
+          offsets-lie = there .fifth-is;
+          entries-lie = there .sixth-is;
+          as-many-rows = sym (as-many-rows-as-junctions (district-row s net) n);
+          as-many-entries = refl;
+        };
+      }

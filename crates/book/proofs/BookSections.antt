@@ -6,50 +6,40 @@ use native.Mathlib.Omega.{arith}
 use lib.ListN.{length, take, drop, length-append}
 use Rattle.book.proofs.LaidEndToEnd.{middle}
 
-module _ (h a b c d e f more : List ℕ) where
-  -- all words, with more behind them
-  abbrev pub laid : List ℕ
-  laid = (h ++ (a ++ (b ++ (c ++ (d ++ (e ++ f)))))) ++ more
+-- six sections lie in the words ws one after another, the first of them at place u
+pub record Six-sections (ws : List ℕ) (u n q m k p l : ℕ) (a b c d e f : List ℕ) : Type 0 where
+  pub first-is : take n (drop u ws) ≡ a
+  pub second-is : take q (drop (u + n) ws) ≡ b
+  pub third-is : take m (drop (u + n + q) ws) ≡ c
+  pub fourth-is : take k (drop (u + n + q + m) ws) ≡ d
+  pub fifth-is : take p (drop (u + n + q + m + k) ws) ≡ e
+  pub sixth-is : take l (drop (u + n + q + m + k + p) ws) ≡ f
 
-  pub length-laid : length (h ++ (a ++ (b ++ (c ++ (d ++ (e ++ f)))))) ≡ length h + length a + length b + length c + length d + length e + length f
+module _ (h a b c d e f more : List ℕ) where
+  -- all words, and more behind them
+  abbrev pub laid : List ℕ
+  laid = h ++ (a ++ (b ++ (c ++ (d ++ (e ++ f)))))
+
+  pub length-laid : length laid ≡ length h + length a + length b + length c + length d + length e + length f
   length-laid = simp length-append (omega arith)
 
-  pub laid-is-longer : length (h ++ (a ++ (b ++ (c ++ (d ++ (e ++ f)))))) ≤ length laid
-  laid-is-longer = omega (arith, length-append (h ++ (a ++ (b ++ (c ++ (d ++ (e ++ f)))))) more)
+  pub laid-is-no-longer : length laid ≤ length (laid ++ more)
+  laid-is-no-longer = omega (arith, length-append laid more)
 
-  module _ (u n q m k p l : ℕ) (hu : length h ≡ u) (an : length a ≡ n) (bq : length b ≡ q) (cm : length c ≡ m) (dk : length d ≡ k)
-      (ep : length e ≡ p) (fl : length f ≡ l) where
-    pub first-section : take n (drop u laid) ≡ a
-    first-section =
-        let regrouped : laid ≡ h ++ (a ++ (b ++ (c ++ (d ++ (e ++ (f ++ more)))))) = simp append-assoc in
-        ap (λ ws. take n (drop u ws)) regrouped ∙ middle h a (b ++ (c ++ (d ++ (e ++ (f ++ more))))) u n hu an
+  -- a section with what lies before it
+  at : (before here later : List ℕ) (first size : ℕ) → laid ++ more ≡ before ++ (here ++ later) → length before ≡ first → length here ≡ size
+      → take size (drop first (laid ++ more)) ≡ here
+  at before here later first size regrouped e f =
+      ap (λ ws. take size (drop first ws)) regrouped ∙ middle before here later first size e f
 
-    pub second-section : take q (drop (u + n) laid) ≡ b
-    second-section =
-        let regrouped : laid ≡ (h ++ a) ++ (b ++ (c ++ (d ++ (e ++ (f ++ more))))) = simp append-assoc in
-        ap (λ ws. take q (drop (u + n) ws)) regrouped
-        ∙ middle (h ++ a) b (c ++ (d ++ (e ++ (f ++ more)))) (u + n) q (simp length-append (omega arith)) bq
-
-    pub third-section : take m (drop (u + n + q) laid) ≡ c
-    third-section =
-        let regrouped : laid ≡ (h ++ a ++ b) ++ (c ++ (d ++ (e ++ (f ++ more)))) = simp append-assoc in
-        ap (λ ws. take m (drop (u + n + q) ws)) regrouped
-        ∙ middle (h ++ a ++ b) c (d ++ (e ++ (f ++ more))) (u + n + q) m (simp length-append (omega arith)) cm
-
-    pub fourth-section : take k (drop (u + n + q + m) laid) ≡ d
-    fourth-section =
-        let regrouped : laid ≡ (h ++ a ++ b ++ c) ++ (d ++ (e ++ (f ++ more))) = simp append-assoc in
-        ap (λ ws. take k (drop (u + n + q + m) ws)) regrouped
-        ∙ middle (h ++ a ++ b ++ c) d (e ++ (f ++ more)) (u + n + q + m) k (simp length-append (omega arith)) dk
-
-    pub fifth-section : take p (drop (u + n + q + m + k) laid) ≡ e
-    fifth-section =
-        let regrouped : laid ≡ (h ++ a ++ b ++ c ++ d) ++ (e ++ (f ++ more)) = simp append-assoc in
-        ap (λ ws. take p (drop (u + n + q + m + k) ws)) regrouped
-        ∙ middle (h ++ a ++ b ++ c ++ d) e (f ++ more) (u + n + q + m + k) p (simp length-append (omega arith)) ep
-
-    pub sixth-section : take l (drop (u + n + q + m + k + p) laid) ≡ f
-    sixth-section =
-        let regrouped : laid ≡ (h ++ a ++ b ++ c ++ d ++ e) ++ (f ++ more) = simp append-assoc in
-        ap (λ ws. take l (drop (u + n + q + m + k + p) ws)) regrouped
-        ∙ middle (h ++ a ++ b ++ c ++ d ++ e) f more (u + n + q + m + k + p) l (simp length-append (omega arith)) fl
+  pub six-sections :
+      (u n q m k p l : ℕ) → length h ≡ u → length a ≡ n → length b ≡ q → length c ≡ m → length d ≡ k → length e ≡ p → length f ≡ l
+      → Six-sections (laid ++ more) u n q m k p l a b c d e f
+  six-sections u n q m k p l hu an bq cm dk ep fl = record {
+    first-is = at h a (b ++ (c ++ (d ++ (e ++ (f ++ more))))) u n (simp append-assoc) hu an;
+    second-is = at (h ++ a) b (c ++ (d ++ (e ++ (f ++ more)))) (u + n) q (simp append-assoc) (simp length-append (omega arith)) bq;
+    third-is = at (h ++ a ++ b) c (d ++ (e ++ (f ++ more))) (u + n + q) m (simp append-assoc) (simp length-append (omega arith)) cm;
+    fourth-is = at (h ++ a ++ b ++ c) d (e ++ (f ++ more)) (u + n + q + m) k (simp append-assoc) (simp length-append (omega arith)) dk;
+    fifth-is = at (h ++ a ++ b ++ c ++ d) e (f ++ more) (u + n + q + m + k) p (simp append-assoc) (simp length-append (omega arith)) ep;
+    sixth-is = at (h ++ a ++ b ++ c ++ d ++ e) f more (u + n + q + m + k + p) l (simp append-assoc) (simp length-append (omega arith)) fl;
+  }

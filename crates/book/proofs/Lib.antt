@@ -7,3 +7,4 @@ pub mod BookLimits
 pub mod NothingBad
 pub mod BookSections
 pub mod BookLaidOut
+pub mod BookWritten
