@@ -1,7 +1,7 @@
 -- The words of a network's book, with more behind them: the counts, and where each section lies. Assumes nothing.
-use mathlib.Core.Path.{_≡_, refl, sym, _∙_, ap}
+use mathlib.Core.Path.{_≡_, refl, sym}
 use mathlib.Core.List.{List, [], _∷_, _++_}
-use Prim.Native.Nat.{ℕ, suc, _+_, _*_, _≤_}
+use Prim.Native.Nat.{ℕ, _+_, _*_, _≤_}
 use native.Mathlib.Omega.{arith}
 use lib.ListN.{length}
 use Rattle.measure.specs.Scale.{Scale}
@@ -10,13 +10,12 @@ use Rattle.network.specs.Networks.{Network}
 use Rattle.network.specs.Rows.{border-row, district-row}
 use Rattle.book.specs.Layout.{word, counts-of, places-at, order-at, words-in}
 use Rattle.book.specs.Words.{border-rows, district-rows, offsets-from, all-entries, entry-words, book-size, words}
-use Rattle.book.specs.declared.names.Names.{Names}
 use Rattle.book.specs.declared.names.Names.the-variants.{Ranks, Hubs}
 use Rattle.book.proofs.LaidEndToEnd.{length-entry-words}
 use Rattle.book.proofs.RowOffsets.{length-offsets}
 use Rattle.book.proofs.RowsInWords.{Rows-lie}
 use Rattle.book.proofs.BookLimits.{as-many-rows-as-junctions}
-use Rattle.book.proofs.BookSections.{laid, length-laid, laid-is-no-longer, Six-sections, six-sections}
+use Rattle.book.proofs.BookSections.{length-laid, laid-is-no-longer, six-sections}
 
 -- the words ws begin with the book of the network: each count, and each section
 pub record Laid-out (s : Scale) (net : Network) (order ws : List ℕ) : Type 0 where
@@ -73,9 +72,15 @@ module _ (s : Scale) (net : Network) (long : length (net .places) ≡ net .junct
 
   pub book-size-is : book-size s net order ≡ length (words s net order)
   book-size-is =
-      omega (arith, long, border-offsets-are-long, district-offsets-are-long,
-      length-entry-words (all-entries (border-rows s net order)), length-entry-words (all-entries (district-rows s net)),
-      length-laid front (net .places) order border-offsets border-words district-offsets district-words [])
+      omega (
+        arith,
+        long,
+        border-offsets-are-long,
+        district-offsets-are-long,
+        length-entry-words (all-entries (border-rows s net order)),
+        length-entry-words (all-entries (district-rows s net)),
+        length-laid front (net .places) order border-offsets border-words district-offsets district-words [],
+      )
 
   pub words-are-laid-out : (more : List ℕ) → Laid-out s net order (words s net order ++ more)
   words-are-laid-out more =

@@ -1,6 +1,6 @@
 -- How many borders, border entries and district entries a network has at most, and the rows of all junctions by number.
 -- Assumes nothing.
-use mathlib.Core.Path.{_≡_, refl, sym, _∙_, ap, subst}
+use mathlib.Core.Path.{_≡_, refl, _∙_, ap, subst}
 use mathlib.Core.Bool.{true}
 use mathlib.Core.List.{List, [], _∷_, map}
 use mathlib.Core.Logic.{inl, inr}
@@ -14,7 +14,7 @@ use Rattle.measure.specs.Scale.{Scale}
 use Rattle.network.specs.Lists.{In, Distinct, count-up}
 use Rattle.network.specs.Networks.{Network, Junction, Sound, district, is-border, Border-order}
 use Rattle.network.specs.Labels.{Entry}
-use Rattle.network.specs.Rows.{border-row, district-row, members}
+use Rattle.network.specs.Rows.{border-row, district-row}
 use Rattle.network.proofs.Lists.{all-in, all-from-in, without, in-without, without-is-shorter, length-count-up}
 use Rattle.network.proofs.NetworkArcs.{junction-is-counted}
 use Rattle.network.proofs.DistrictArcs.{border-is-a-junction}
@@ -40,9 +40,12 @@ module _ (s : Scale) (net : Network) (sound : Sound s net) (order : List ℕ) (i
 
   pub order-is-no-longer : length order ≤ net .junctions
   order-is-no-longer =
-      omega (arith, length-count-up 1 (net .junctions),
-      distinct-are-no-more order (count-up 1 (net .junctions)) (is-order .holds-none-twice)
-      (λ v i. junction-is-counted net v (all-in (Junction net) v order order-has-junctions i)))
+      omega (
+        arith,
+        length-count-up 1 (net .junctions),
+        distinct-are-no-more order (count-up 1 (net .junctions)) (is-order .holds-none-twice)
+            (λ v i. junction-is-counted net v (all-in (Junction net) v order order-has-junctions i)),
+      )
 
 -- The rows of junctions 1 to n.
 

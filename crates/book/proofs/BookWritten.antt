@@ -1,29 +1,29 @@
 -- The words of a network's book are a book, and show exactly its rows. Assumes nothing.
 use mathlib.Core.Path.{_≡_, refl, sym, _∙_, ap, subst}
-use mathlib.Core.Bool.{true, false, not, _&&_, _||_}
-use mathlib.Core.List.{List, [], _∷_, _++_, map}
+use mathlib.Core.Bool.{true, false, not, _||_}
+use mathlib.Core.List.{List, [], _++_, map}
 use Prim.Native.Nat.{ℕ, suc, _+_, _-_, _*_, _≤_, _<_}
 use native.Mathlib.Omega.{arith}
 use lib.Dec.{eqb, ltb}
 use lib.ListN.{length, getD}
-use Rattle.std.specs.declared.result.Result.the-variants.{Ok, Err}
+use Rattle.std.specs.declared.result.Result.the-variants.{Ok}
 use Rattle.std.specs.shelf.Lists.{All}
-use Rattle.std.proofs.shelf.Tests.{or-from, and-from, not-from-true, eq-eqb, lt-ltb, le-ltb, cond-false}
+use Rattle.std.proofs.shelf.Tests.{or-from, and-from, not-from-true, eq-eqb, lt-ltb, le-ltb}
 use Rattle.std.proofs.shelf.Elements.{all-weaker}
 use Rattle.measure.specs.Scale.{Scale, Laws}
 use Rattle.network.specs.Lists.{count-up}
 use Rattle.network.specs.Labels.{Entry}
 use Rattle.network.specs.Networks.{Network, Junction, district, Border-order}
 use Rattle.network.specs.Rows.{border-row, district-row}
-use Rattle.network.specs.Theorems.{Allowed, Rows-ascend}
+use Rattle.network.specs.Theorems.{Rows-ascend}
 use Rattle.network.proofs.Conclusions.{rows-ascend}
 use Rattle.drawing.specs.Edits.{within}
 use Rattle.drawing.specs.Outcomes.{verdict}
 use Rattle.book.specs.Layout.{word, counts-of, places-at, entries}
-use Rattle.book.specs.Words.{border-rows, district-rows, all-entries, entry-words, book-size, words}
+use Rattle.book.specs.Words.{border-rows, district-rows, all-entries, entry-words, words}
 use Rattle.book.specs.Bad.{right-name, parts, None-bad}
 use Rattle.book.specs.Ready.{Ready}
-use Rattle.book.specs.Opened.{open-checks, row-words, Is-book}
+use Rattle.book.specs.Opened.{open-checks, row-words}
 use Rattle.book.specs.Written.{Bookable, Shows-row, Words-are-a-book}
 use Rattle.book.specs.declared.names.Names.{Names}
 use Rattle.book.specs.declared.names.Names.the-variants.{Ranks, Hubs}
@@ -118,21 +118,34 @@ module _ (s : Scale) (laws : Laws s) (net : Network) (order : List ℕ) (bookabl
 
   none-is-bad : None-bad s ws
   none-is-bad =
-      let c = counts-of ws in
       let sound = bookable .allowed .sound in
-      nothing-is-bad (parts s ws (counts-of ws))
-      ((λ j l. no-count-is-bad ws (counts-of ws) counts-are-ready (omega (arith, bookable .some-districts, laid .districts-are)) j), (
-      no-district-is-bad ws (counts-of ws) (net .places) (laid .places-lie) (sound .every-junction-has-a-district ∙ sym (laid .junctions-are))
-      (subst (λ m. All (λ d. d < m) (net .places)) (sym (laid .districts-are)) (sound .districts-are-below-their-number)), (
-      no-border-is-bad ws (counts-of ws) order (laid .order-lies) (sym (laid .borders-are))
-      (subst (λ n. All (λ v. (1 ≤ v) × (v ≤ n)) order) (sym (laid .junctions-are)) (order-has-junctions s net sound order is-order))
-      (is-order .holds-none-twice), (
-      no-offset-is-bad ws (counts-of ws) Ranks (border-rows s net order) (laid .border-rows-lie), (
-      no-entry-is-bad s ws (counts-of ws) Ranks (border-rows s net order) (laid .border-rows-lie)
-      (rows-are-good Ranks (border-row s net order) (λ v j. border-row-is-good v)), (
-      no-offset-is-bad ws (counts-of ws) Hubs (district-rows s net) (laid .district-rows-lie), (
-      no-entry-is-bad s ws (counts-of ws) Hubs (district-rows s net) (laid .district-rows-lie)
-      (rows-are-good Hubs (district-row s net) district-row-is-good), tt)))))))
+      nothing-is-bad (parts s ws (counts-of ws)) (
+        (λ j l. no-count-is-bad ws (counts-of ws) counts-are-ready (omega (arith, bookable .some-districts, laid .districts-are)) j),
+        (
+          no-district-is-bad ws (counts-of ws) (net .places) (laid .places-lie) (sound .every-junction-has-a-district ∙ sym (laid .junctions-are))
+              (subst (λ m. All (λ d. d < m) (net .places)) (sym (laid .districts-are)) (sound .districts-are-below-their-number)),
+          (
+            no-border-is-bad ws (counts-of ws) order (laid .order-lies) (sym (laid .borders-are))
+                (subst (λ n. All (λ v. (1 ≤ v) × (v ≤ n)) order) (sym (laid .junctions-are)) (order-has-junctions s net sound order is-order))
+                (is-order .holds-none-twice),
+            (
+              no-offset-is-bad ws (counts-of ws) Ranks (border-rows s net order) (laid .border-rows-lie),
+              (
+                no-entry-is-bad s ws (counts-of ws) Ranks (border-rows s net order) (laid .border-rows-lie)
+                    (rows-are-good Ranks (border-row s net order) (λ v j. border-row-is-good v)),
+                (
+                  no-offset-is-bad ws (counts-of ws) Hubs (district-rows s net) (laid .district-rows-lie),
+                  (
+                    no-entry-is-bad s ws (counts-of ws) Hubs (district-rows s net) (laid .district-rows-lie)
+                        (rows-are-good Hubs (district-row s net) district-row-is-good),
+                    tt,
+                  ),
+                ),
+              ),
+            ),
+          ),
+        ),
+      )
 
   laid-out-is-a-book : Words-are-a-book s net order ws
   laid-out-is-a-book = record {

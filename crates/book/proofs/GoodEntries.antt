@@ -1,21 +1,20 @@
 -- Rows that lie in words, with hubs that ascend and are right and with proper values: none of their words is bad. Assumes nothing.
-use mathlib.Core.Path.{_≡_, refl, sym, _∙_, ap, subst}
-use mathlib.Core.Bool.{Bool, true, false, cond, not, _&&_, _||_}
+use mathlib.Core.Path.{_≡_, refl, _∙_, ap, subst}
+use mathlib.Core.Bool.{Bool, true, false, not, _&&_}
 use mathlib.Core.List.{List, [], _∷_}
 use mathlib.Core.Logic.{⊎-elim}
-use Prim.Native.Nat.{ℕ, zero, suc, _+_, _-_, _*_, _/_, _%_, _≤_, _<_}
+use Prim.Native.Nat.{ℕ, zero, suc, _+_, _-_, _*_, _/_, _%_, _<_}
 use native.Mathlib.Omega.{arith}
 use lib.Dec.{eqb, leb}
 use lib.ListN.{length, getD}
 use Rattle.std.specs.shelf.Lists.{All, kept-by}
-use Rattle.std.proofs.shelf.Tests.{cases-eq, cond-both, or-from, and-left, and-right, not-from-true, eqb-true, eqb-false, ne-eqb, lt-leb}
+use Rattle.std.proofs.shelf.Tests.{cases-eq, cond-both, or-from, and-left, and-right, not-from-true, eqb-false, ne-eqb, lt-leb}
 use Rattle.std.proofs.shelf.Elements.{all-getD}
-use Rattle.measure.specs.Scale.{Scale, Value}
+use Rattle.measure.specs.Scale.{Scale}
 use Rattle.network.specs.Labels.{Entry, entry, Ascends}
 use Rattle.network.specs.Theorems.{Proper}
-use Rattle.book.specs.Layout.{word, words-in}
 use Rattle.book.specs.Words.{offsets-from, all-entries, entry-words}
-use Rattle.book.specs.Bad.{among, offsets-at, entries-at, entry-count, entry-word, begins-a-row, row-of, right-name, bad-value, bad-name, bad-entry}
+use Rattle.book.specs.Bad.{among, entries-at, entry-word, begins-a-row, row-of, right-name, bad-value, bad-name, bad-entry}
 use Rattle.book.specs.declared.counts.Counts.{Counts}
 use Rattle.book.specs.declared.names.Names.{Names}
 use Rattle.book.proofs.LaidEndToEnd.{word-of-section}

@@ -1,9 +1,9 @@
 -- Lists laid end to end: the part that lies behind another, and what a section of words holds. Assumes nothing.
 use mathlib.Core.Path.{_≡_, refl, sym, _∙_, ap}
-use mathlib.Core.List.{List, [], _∷_, _++_, append-assoc}
-use Prim.Native.Nat.{ℕ, zero, suc, _+_, _*_, _≤_, _<_}
+use mathlib.Core.List.{List, [], _∷_, _++_}
+use Prim.Native.Nat.{ℕ, _+_, _*_, _≤_, _<_}
 use native.Mathlib.Omega.{arith}
-use lib.ListN.{length, getD, take, drop, length-append}
+use lib.ListN.{length, getD, take, drop}
 use Rattle.std.proofs.shelf.Lists.{take-at, drop-at, getD-take, getD-drop, take-take, drop-drop, drop-take}
 use Rattle.network.specs.Labels.{Entry}
 use Rattle.book.specs.Layout.{Section, word, words-in, entries}
@@ -22,9 +22,9 @@ part-of-section x ws from size h =
     let longer : List ℕ = drop (x .first) ws in
     let moved : drop from longer ≡ drop (x .first + from) ws = drop-drop from (x .first) ws in
     let inner : take size (drop from (take (from + size) longer)) ≡ take size (drop from longer) =
-        ap (take size) (drop-take from size longer) ∙ take-take size size (drop from longer) (omega arith) in
+    ap (take size) (drop-take from size longer) ∙ take-take size size (drop from longer) (omega arith) in
     let outer : take size (drop from (take (from + size) (take (x .size) longer))) ≡ take size (drop from (take (x .size) longer)) =
-        ap (take size) (drop-take from size (take (x .size) longer)) ∙ take-take size size (drop from (take (x .size) longer)) (omega arith) in
+    ap (take size) (drop-take from size (take (x .size) longer)) ∙ take-take size size (drop from (take (x .size) longer)) (omega arith) in
     ap (take size) (sym moved) ∙ sym inner
     ∙ ap (λ l. take size (drop from l)) (sym (take-take (from + size) (x .size) longer h)) ∙ outer
 

@@ -1,6 +1,6 @@
 -- Counts within their limits, districts and borders as a network has them: none of their words is bad. Assumes nothing.
-use mathlib.Core.Path.{_≡_, refl, sym, _∙_, ap, subst}
-use mathlib.Core.Bool.{Bool, true, false, not, _&&_, _||_}
+use mathlib.Core.Path.{_≡_, refl, _∙_, ap, subst}
+use mathlib.Core.Bool.{Bool, true, false, not, _&&_}
 use mathlib.Core.List.{List, [], _∷_}
 use mathlib.Core.Logic.{⊎-elim}
 use Prim.Native.Nat.{ℕ, zero, suc, _+_, _-_, _*_, _≤_, _<_}
@@ -58,15 +58,31 @@ no-count-is-bad ws c r some =
     ∷ ltb (c .junctions * c .borders) (c .«border_entries»)
     ∷ ltb (c .junctions * c .junctions) (c .«district_entries»)
     ∷ not (eqb (c .words) (total c))
-    ∷ [])
-    (refl, (
-    refl, (
-    not-from-true (within 1 4096 (c .junctions)) (is-within 1 4096 (c .junctions) (r .some-junctions) (r .few-junctions)), (
-    not-from-true (within 1 64 (c .districts)) (is-within 1 64 (c .districts) some (r .few-districts)), (
-    le-ltb (c .junctions) (c .borders) (r .few-borders), (
-    le-ltb (c .junctions * c .borders) (c .«border_entries») (r .few-border-entries), (
-    le-ltb (c .junctions * c .junctions) (c .«district_entries») (r .few-district-entries), (
-    not-from-true (eqb (c .words) (total c)) (eq-eqb (c .words) (total c) (r .words-are-counted)), tt))))))))
+    ∷ []) (
+      refl,
+      (
+        refl,
+        (
+          not-from-true (within 1 4096 (c .junctions)) (is-within 1 4096 (c .junctions) (r .some-junctions) (r .few-junctions)),
+          (
+            not-from-true (within 1 64 (c .districts)) (is-within 1 64 (c .districts) some (r .few-districts)),
+            (
+              le-ltb (c .junctions) (c .borders) (r .few-borders),
+              (
+                le-ltb (c .junctions * c .borders) (c .«border_entries») (r .few-border-entries),
+                (
+                  le-ltb (c .junctions * c .junctions) (c .«district_entries») (r .few-district-entries),
+                  (
+                    not-from-true (eqb (c .words) (total c)) (eq-eqb (c .words) (total c) (r .words-are-counted)),
+                    tt,
+                  ),
+                ),
+              ),
+            ),
+          ),
+        ),
+      ),
+    )
 
 -- an element of a list without repeats is not among those before it
 pub none-stood-before : (xs : List ℕ) (j : ℕ) → Distinct xs → j < length xs → among (getD xs j 0) (take j xs) ≡ false

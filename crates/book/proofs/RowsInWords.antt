@@ -1,15 +1,15 @@
 -- Rows that lie in words, as offsets and entries: each row can be read back, and no offset is bad. Assumes nothing.
 use mathlib.Core.Path.{_≡_, refl, sym, _∙_, ap}
-use mathlib.Core.Bool.{Bool, true, false, cond, not, _&&_, _||_}
-use mathlib.Core.List.{List, [], _∷_, _++_}
+use mathlib.Core.Bool.{false, cond, not, _&&_, _||_}
+use mathlib.Core.List.{List, [], _++_}
 use mathlib.Core.Logic.{⊎-elim}
-use Prim.Native.Nat.{ℕ, zero, suc, _+_, _-_, _*_, _≤_, _<_}
+use Prim.Native.Nat.{ℕ, suc, _+_, _-_, _*_, _≤_, _<_}
 use native.Mathlib.Omega.{arith}
 use lib.Dec.{eqb, ltb}
 use lib.ListN.{length, getD, take, drop}
 use Rattle.std.proofs.shelf.Tests.{cases-bool, cond-both, or-from, and-left, and-right, not-from-true, eq-eqb, eqb-true, le-ltb}
 use Rattle.network.specs.Labels.{Entry}
-use Rattle.book.specs.Layout.{word, words-in}
+use Rattle.book.specs.Layout.{words-in}
 use Rattle.book.specs.Words.{offsets-from, all-entries, entry-words}
 use Rattle.book.specs.Bad.{offsets-at, entries-at, entry-count, offset, bad-offset}
 use Rattle.book.specs.declared.counts.Counts.{Counts}
