@@ -1,2 +1,12 @@
 pub mod RowsOfEntries
 pub mod BadInRow
+pub mod LaidEndToEnd
+pub mod RisingOffsets
+pub mod RowOffsets
+pub mod RowsInWords
+pub mod GoodEntries
+pub mod BookLimits
+pub mod NothingBad
+pub mod BookSections
+pub mod BookLaidOut
+pub mod BookWritten

@@ -5,3 +5,4 @@ pub mod Ready
 pub mod InRow
 pub mod Opened
 pub mod Cases
+pub mod Written

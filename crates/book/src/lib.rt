@@ -9,6 +9,7 @@ mod rows;
 mod sections;
 mod span;
 mod worked;
+mod written;
 
 pub use counts::Counts;
 pub use names::Names;
@@ -16,3 +17,4 @@ pub use opened::Book;
 pub use opening::open;
 pub use span::Span;
 pub use worked::six_junctions_answered;
+pub use written::words_are_a_book;
