@@ -61,7 +61,11 @@ fn bad_count(words: &[u64], i: u64) -> bool {
 // Offsets from `first` up to `end`, of so many entries.
 fn bad_offset(words: &[u64], first: u64, end: u64, entries: u64, i: u64) -> bool {
     let offset = word(words, i);
-    let before = if i == first { 0 } else { word(words, i.saturating_sub(1)) };
+    let before = if i == first {
+        0
+    } else {
+        word(words, i.saturating_sub(1))
+    };
     let begins_wrong = i == first && offset != 0;
     let ends_wrong = i.saturating_add(1) == end && offset != entries;
     begins_wrong || offset < before || offset > entries || ends_wrong
@@ -104,7 +108,13 @@ fn bad(words: &[u64], i: u64) -> bool {
     } else if i < border_entries {
         bad_offset(words, border_offsets, border_entries, word(words, 5), i)
     } else if i < district_offsets {
-        bad_entry(words, border_offsets, border_entries, Some(word(words, 4)), i)
+        bad_entry(
+            words,
+            border_offsets,
+            border_entries,
+            Some(word(words, 4)),
+            i,
+        )
     } else if i < district_entries {
         bad_offset(words, district_offsets, district_entries, word(words, 6), i)
     } else {
