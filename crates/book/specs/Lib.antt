@@ -2,4 +2,5 @@ pub mod Layout
 pub mod Words
 pub mod Bad
 pub mod Ready
+pub mod Found
 pub mod Opened

@@ -1,10 +1,131 @@
 // Opening a book.
-ghost use Rattle.book.specs.Opened.{Opens-exactly-books};
+ghost use mathlib.Core.Path.{_≡_};
+ghost use Prim.Native.Nat.{_+_, _<_, _≤_};
+ghost use lib.ListN.{length, take};
+ghost use Rattle.book.specs.Bad.{count-faults, bad-district, bad-border, bad-offset, front-parts, row-parts, Finds, parts};
+ghost use Rattle.book.specs.Found.{first-true, First-in, Few, Marks};
+ghost use Rattle.book.specs.Layout.{word, counts-of, total, words-in, order-at};
+ghost use Rattle.book.specs.Opened.{open-checks, Opens-exactly-books};
+ghost use Rattle.book.specs.Ready.{Ready};
+ghost use Rattle.drawing.specs.Outcomes.{verdict};
 use super::Book;
+use super::Counts;
+use super::Names;
 use super::Span;
 use drawing::Refusal;
 use drawing::Table;
 use measure::Measure;
+
+// The limits of a book.
+const MOST_JUNCTIONS: u64 = 4_096;
+
+const MOST_DISTRICTS: u64 = 64;
+
+// What the words must have before any of them can be bad: the book's number, the measure's tag, and as many words as they say.
+fn check_open<M: Measure>(words: &[u64]) -> Result<(), Refusal>
+    ensures { λ r. ⌜ r ≡ verdict (open-checks (M·Measure .scale) (now (words .entry))) ⌝ }
+{
+    if words.len() < 8 || words[0] != 1 {
+        return Err(Refusal::NoBook);
+    }
+    if words[1] != M::tag_word() {
+        return Err(Refusal::OtherMeasure);
+    }
+    if (words.len() as u64) < words[7] {
+        return Err(Refusal::ShortBook { words: words[7] });
+    }
+    Ok(())
+}
+
+// The counts in words 2 to 7.
+fn read_counts(words: &[u64]) -> Counts
+    requires { ⌜ 8 ≤ length (now words) ⌝ }
+    ensures { λ r. ⌜ r ≡ counts-of (now (words .entry)) ⌝ }
+{
+    Counts {
+        junctions: words[2],
+        districts: words[3],
+        borders: words[4],
+        border_entries: words[5],
+        district_entries: words[6],
+        words: words[7],
+    }
+}
+
+// How many words a book with these counts has.
+fn total_words(counts: &Counts) -> u64
+    requires { ⌜ Few (now counts) ⌝ }
+    ensures { λ r. ⌜ r ≡ total (now (counts .entry)) ⌝ }
+{
+    let fixed = 10 + 3 * counts.junctions + counts.borders;
+    fixed
+        .saturating_add(counts.border_entries.saturating_mul(2))
+        .saturating_add(counts.district_entries.saturating_mul(2))
+}
+
+// The place of the first bad count.
+fn bad_count(counts: &Counts) -> Option<u64>
+    ensures { λ r. ⌜ r ≡ first-true 0 (count-faults (now (counts .entry))) ⌝ }
+{
+    let junctions = counts.junctions;
+    if junctions < 1 || junctions > MOST_JUNCTIONS {
+        return Some(2);
+    }
+    if counts.districts < 1 || counts.districts > MOST_DISTRICTS {
+        return Some(3);
+    }
+    if counts.borders > junctions {
+        return Some(4);
+    }
+    if counts.border_entries > junctions.saturating_mul(counts.borders) {
+        return Some(5);
+    }
+    if counts.district_entries > junctions.saturating_mul(junctions) {
+        return Some(6);
+    }
+    if counts.words != total_words(counts) {
+        return Some(7);
+    }
+    None
+}
+
+// Word number j of a section.
+fn word_at(words: &[u64], span: Span, j: u64) -> u64
+    requires { ⌜ j < span .length ⌝ ∗ ⌜ span .total ≤ length (now words) ⌝ }
+    ensures { λ r. ⌜ r ≡ word (now (words .entry)) (span .first + j) ⌝ }
+{
+    words[(span.first + j) as usize]
+}
+
+// Whether the district of junction j + 1 is bad.
+fn is_bad_district(words: &[u64], counts: &Counts, j: u64) -> bool
+    requires { ⌜ Ready (now words) (now counts) ⌝ ∗ ⌜ j < now counts .junctions ⌝ }
+    ensures { λ r. ⌜ r ≡ bad-district (now (words .entry)) (now (counts .entry)) j ⌝ }
+{
+    word_at(words, counts.places(), j) >= counts.districts
+}
+
+// The first bad district, counted from 0.
+fn bad_district(words: &[u64], counts: &Counts) -> Option<u64>
+    requires { ⌜ Ready (now words) (now counts) ⌝ }
+    ensures { λ r. ⌜ Finds (bad-district (now (words .entry)) (now (counts .entry))) 0 (now (counts .entry) .junctions) r ⌝ }
+{
+    for j in 0..counts.junctions {
+        if is_bad_district(words, counts, j) {
+            return Some(j);
+        }
+    }
+    None
+}
+
+// Whether the border of rank j is bad, where the borders before it are marked.
+fn is_bad_border(words: &[u64], counts: &Counts, seen: &[bool], j: u64) -> bool
+    requires { ⌜ Ready (now words) (now counts) ⌝ ∗ ⌜ j < now counts .borders ⌝ ∗ ⌜ Marks (now seen) (take j (words-in (order-at (now counts)) (now words))) ⌝ }
+    ensures { λ r. ⌜ r ≡ bad-border (now (words .entry)) (now (counts .entry)) j ⌝ }
+{
+    let border = word_at(words, counts.order(), j);
+    border < 1 || border > counts.junctions || seen[border as usize]
+}
 
 pub fn open<M: Measure>(words: &[u64]) -> Result<Book<'_>, Refusal>
     ensures { λ r. ⌜ Opens-exactly-books (M·Measure .scale) (now (words .entry)) r ⌝ }
