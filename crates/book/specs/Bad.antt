@@ -114,23 +114,20 @@ pub record Part : Type 0 where
 abbrev pub part : Section → (ℕ → Bool) → Part
 part x b = record { lies = x; bad = b }
 
--- the parts before the rows, and those of the rows of one kind
-abbrev pub front-parts : List ℕ → Counts → List Part
-front-parts ws c =
-    part (section 0 8) (bad-count c)
-    ∷ part (places-at c) (bad-district ws c)
-    ∷ part (order-at c) (bad-border ws c)
-    ∷ []
+-- the parts: the counts, the districts and the border order, and the offsets and entries of the rows of one kind
+abbrev pub count-parts : Counts → List Part
+count-parts c = part (section 0 8) (bad-count c) ∷ []
+
+abbrev pub place-parts : List ℕ → Counts → List Part
+place-parts ws c = part (places-at c) (bad-district ws c) ∷ part (order-at c) (bad-border ws c) ∷ []
 
 abbrev pub row-parts : Scale → List ℕ → Counts → Names → List Part
 row-parts s ws c names =
-    part (offsets-at c names) (bad-offset ws c names)
-    ∷ part (entries-at c names) (bad-entry s ws c names)
-    ∷ []
+    part (offsets-at c names) (bad-offset ws c names) ∷ part (entries-at c names) (bad-entry s ws c names) ∷ []
 
 -- all parts of a book, in order
 abbrev pub parts : Scale → List ℕ → Counts → List Part
-parts s ws c = front-parts ws c ++ (row-parts s ws c Ranks ++ row-parts s ws c Hubs)
+parts s ws c = count-parts c ++ (place-parts ws c ++ (row-parts s ws c Ranks ++ row-parts s ws c Hubs))
 
 -- the place i lies in a part, and its word there is bad
 abbrev pub bad-in : List Part → ℕ → Bool

@@ -1,8 +1,9 @@
 // Opening a book.
 ghost use mathlib.Core.Path.{_≡_};
+ghost use mathlib.Core.List.{[]};
 ghost use Prim.Native.Nat.{_+_, _<_, _≤_};
 ghost use lib.ListN.{length, take};
-ghost use Rattle.book.specs.Bad.{count-faults, bad-district, bad-border, bad-offset, front-parts, row-parts, Finds, parts};
+ghost use Rattle.book.specs.Bad.{count-faults, bad-district, bad-border, bad-offset, place-parts, row-parts, Finds, parts};
 ghost use Rattle.book.specs.Found.{first-true, First-in, Few, Marks};
 ghost use Rattle.book.specs.Layout.{word, counts-of, total, words-in, order-at};
 ghost use Rattle.book.specs.Opened.{open-checks, Opens-exactly-books};
@@ -57,10 +58,10 @@ fn total_words(counts: &Counts) -> u64
     requires { ⌜ Few (now counts) ⌝ }
     ensures { λ r. ⌜ r ≡ total (now (counts .entry)) ⌝ }
 {
-    let fixed = 10 + 3 * counts.junctions + counts.borders;
-    fixed
-        .saturating_add(counts.border_entries.saturating_mul(2))
-        .saturating_add(counts.district_entries.saturating_mul(2))
+    10 + 3 * counts.junctions
+        + counts.borders
+        + 2 * counts.border_entries
+        + 2 * counts.district_entries
 }
 
 // The place of the first bad count.
@@ -77,10 +78,10 @@ fn bad_count(counts: &Counts) -> Option<u64>
     if counts.borders > junctions {
         return Some(4);
     }
-    if counts.border_entries > junctions.saturating_mul(counts.borders) {
+    if counts.border_entries > junctions * counts.borders {
         return Some(5);
     }
-    if counts.district_entries > junctions.saturating_mul(junctions) {
+    if counts.district_entries > junctions * junctions {
         return Some(6);
     }
     if counts.words != total_words(counts) {
@@ -125,6 +126,56 @@ fn is_bad_border(words: &[u64], counts: &Counts, seen: &[bool], j: u64) -> bool
 {
     let border = word_at(words, counts.order(), j);
     border < 1 || border > counts.junctions || seen[border as usize]
+}
+
+// Marks of which none is set.
+fn no_marks() -> [bool; 4_097]
+    ensures { λ r. ⌜ Marks r [] ⌝ }
+{
+    [false; 4_097]
+}
+
+// The rank of the first bad border.
+fn bad_border(words: &[u64], counts: &Counts) -> Option<u64>
+    requires { ⌜ Ready (now words) (now counts) ⌝ }
+    ensures { λ r. ⌜ Finds (bad-border (now (words .entry)) (now (counts .entry))) 0 (now (counts .entry) .borders) r ⌝ }
+{
+    let mut seen = no_marks();
+    for j in 0..counts.borders {
+        if is_bad_border(words, counts, &seen, j) {
+            return Some(j);
+        }
+        seen[word_at(words, counts.order(), j) as usize] = true;
+    }
+    None
+}
+
+// Whether offset number j is bad.
+fn is_bad_offset(words: &[u64], counts: &Counts, names: Names, j: u64) -> bool
+    requires { ⌜ Ready (now words) (now counts) ⌝ ∗ ⌜ j ≤ now counts .junctions ⌝ }
+    ensures { λ r. ⌜ r ≡ bad-offset (now (words .entry)) (now (counts .entry)) names j ⌝ }
+{
+    let offset = word_at(words, counts.offsets(names), j);
+    let falls = if j == 0 {
+        offset != 0
+    } else {
+        offset < word_at(words, counts.offsets(names), j - 1)
+    };
+    let entries = counts.entry_count(names);
+    falls || offset > entries || (j == counts.junctions && offset != entries)
+}
+
+// The first bad offset, counted from 0.
+fn bad_offset(words: &[u64], counts: &Counts, names: Names) -> Option<u64>
+    requires { ⌜ Ready (now words) (now counts) ⌝ }
+    ensures { λ r. ⌜ Finds (bad-offset (now (words .entry)) (now (counts .entry)) names) 0 (now (counts .entry) .junctions + 1) r ⌝ }
+{
+    for j in 0..counts.junctions + 1 {
+        if is_bad_offset(words, counts, names, j) {
+            return Some(j);
+        }
+    }
+    None
 }
 
 pub fn open<M: Measure>(words: &[u64]) -> Result<Book<'_>, Refusal>
