@@ -9,6 +9,7 @@ ghost use Rattle.book.specs.Layout.{word, counts-of, total, words-in, order-at
 ghost use Rattle.book.specs.Opened.{open-checks, Opens-exactly-books};
 ghost use Rattle.book.specs.Ready.{Ready};
 ghost use Rattle.drawing.specs.Outcomes.{verdict};
+use super::entries::bad_entry;
 use super::Book;
 use super::Counts;
 use super::Names;
@@ -178,8 +179,62 @@ fn bad_offset(words: &[u64], counts: &Counts, names: Names) -> Option<u64>
     None
 }
 
+// The place of the first bad word of the districts and the border order.
+fn bad_place(words: &[u64], counts: &Counts) -> Option<u64>
+    requires { ⌜ Ready (now words) (now counts) ⌝ }
+    ensures { λ r. ⌜ First-in (place-parts (now (words .entry)) (now (counts .entry))) r ⌝ }
+{
+    if let Some(j) = bad_district(words, counts) {
+        return Some(counts.places().first + j);
+    }
+    if let Some(j) = bad_border(words, counts) {
+        return Some(counts.order().first + j);
+    }
+    None
+}
+
+// The place of the first bad word of the rows that name their hubs so.
+fn bad_row<M: Measure>(words: &[u64], counts: &Counts, names: Names) -> Option<u64>
+    requires { ⌜ Ready (now words) (now counts) ⌝ }
+    ensures { λ r. ⌜ First-in (row-parts (M·Measure .scale) (now (words .entry)) (now (counts .entry)) names) r ⌝ }
+{
+    if let Some(j) = bad_offset(words, counts, names) {
+        return Some(counts.offsets(names).first + j);
+    }
+    if let Some(j) = bad_entry::<M>(words, counts, names) {
+        return Some(counts.entries(names).first + j);
+    }
+    None
+}
+
+// The place of the first bad word.
+fn first_bad<M: Measure>(words: &[u64], counts: &Counts) -> Option<u64>
+    requires { ⌜ now counts .words ≤ length (now words) ⌝ }
+    ensures { λ r. ⌜ First-in (parts (M·Measure .scale) (now (words .entry)) (now (counts .entry))) r ⌝ }
+{
+    if let Some(place) = bad_count(counts) {
+        return Some(place);
+    }
+    if let Some(place) = bad_place(words, counts) {
+        return Some(place);
+    }
+    if let Some(place) = bad_row::<M>(words, counts, Names::Ranks) {
+        return Some(place);
+    }
+    bad_row::<M>(words, counts, Names::Hubs)
+}
+
+// Opens the book that the words begin with.
 pub fn open<M: Measure>(words: &[u64]) -> Result<Book<'_>, Refusal>
     ensures { λ r. ⌜ Opens-exactly-books (M·Measure .scale) (now (words .entry)) r ⌝ }
 {
-    Err(Refusal::NoBook)
+    check_open::<M>(words)?;
+    let counts = read_counts(words);
+    match first_bad::<M>(words, &counts) {
+        Some(place) => Err(Refusal::BadEntry {
+            table: Table::Book,
+            place,
+        }),
+        None => Ok(Book { words, counts }),
+    }
 }
