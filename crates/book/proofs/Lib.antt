@@ -1,2 +1,4 @@
+pub mod BookParts
 pub mod Borders
+pub mod FirstTrue
 pub mod Places
