@@ -16,7 +16,7 @@ use Rattle.book.specs.Layout.{after, section}
 use Rattle.book.specs.Bad.{Part, part, offsets-at, entries-at, entry-count, bad-count, count-faults, bad-offset, bad-entry, count-parts, place-parts, row-parts, parts, Finds}
 use Rattle.book.specs.Found.{first-true, First-in}
 use Rattle.book.proofs.Places.{Chain, alone-none, alone-some, first-in-front, first-in-rest}
-use Rattle.book.proofs.FirstTrue.{first-true-finds}
+use Rattle.book.proofs.FirstTrue.{first-true-found}
 
 -- where the sections of the rows of one kind lie
 pub offsets-size : (c : Counts) (names : Names) → (offsets-at c names) .size ≡ c .junctions + 1
@@ -74,11 +74,7 @@ module _ (s : Scale) (ws : List ℕ) (c : Counts) (names : Names) where
 -- the counts
 module _ (c : Counts) where
   counts-give : (r : Option ℕ) → r ≡ first-true 0 (count-faults c) → Finds (bad-count c) 0 8 r
-  counts-give r is =
-      let found : Finds (λ i. getD (count-faults c) (i - 0) false) 0 8 (first-true 0 (count-faults c)) =
-        first-true-finds 0 (count-faults c)
-      in
-      ?
+  counts-give r is = first-true-found (count-faults c) r is
 
   pub in-counts : (i : ℕ) → Some i ≡ first-true 0 (count-faults c) → First-in (count-parts c) (Some i)
   in-counts i is =

@@ -1,9 +1,10 @@
 -- The first of a list of tests that holds is what a search through the list finds. Assumes nothing.
-use mathlib.Core.Path.{_≡_, refl, sym, ap, _∙_}
+use mathlib.Core.Path.{_≡_, refl, sym, ap, _∙_, subst}
 use mathlib.Core.Bool.{Bool, true, false}
 use mathlib.Core.List.{List, [], _∷_}
 use mathlib.Core.Logic.{⊎-elim}
 use Prim.Native.Nat.{ℕ, suc, _+_, _-_, _<_, _≤_}
+use native.Mathlib.Nat.{sub-zero, zero-add}
 use native.Mathlib.Omega.{arith}
 use lib.ListN.{length, getD}
 use Rattle.std.proofs.shelf.Tests.{cases-lt}
@@ -35,3 +36,7 @@ first-true-finds k (false ∷ bs) =
     let size : k + suc (length bs) ≡ k + 1 + length bs = omega arith in
     finds-earlier (λ i. getD (false ∷ bs) (i - k) false) (λ i. getD bs (i - (k + 1)) false) k (k + suc (length bs))
     (first-true (k + 1) bs) same (rw e refl) (rw size (first-true-finds (k + 1) bs))
+
+pub first-true-found : (bs : List Bool) (r : Option ℕ) → r ≡ first-true 0 bs → Finds (λ i. getD bs i false) 0 (length bs) r
+first-true-found bs r is =
+    subst (λ o. Finds (λ i. getD bs i false) 0 (length bs) o) (sym is) (simp (sub-zero, zero-add) at (first-true-finds 0 bs))
