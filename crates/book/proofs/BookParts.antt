@@ -1,11 +1,8 @@
 -- The parts of a book follow one another; where its first bad word stands, by what the search of each part finds. Assumes nothing.
-use mathlib.Core.Path.{_≡_, refl, sym, ap, _∙_, subst}
-use mathlib.Core.Bool.{Bool, true, false}
+use mathlib.Core.Path.{_≡_, refl, sym, subst}
 use mathlib.Core.List.{List, [], _∷_, _++_}
-use Prim.Native.Nat.{ℕ, _+_, _*_, _-_, _<_, _≤_}
+use Prim.Native.Nat.{ℕ, _+_, _*_}
 use native.Mathlib.Nat.{zero-add}
-use native.Mathlib.Omega.{arith}
-use lib.ListN.{length, getD}
 use Rattle.std.specs.declared.option.Option.{Option}
 use Rattle.std.specs.declared.option.Option.the-variants.{Some, None}
 use Rattle.measure.specs.Scale.{Scale}
@@ -15,7 +12,7 @@ use Rattle.book.specs.declared.names.Names.the-variants.{Ranks, Hubs}
 use Rattle.book.specs.Layout.{after, section}
 use Rattle.book.specs.Bad.{Part, part, offsets-at, entries-at, entry-count, bad-count, count-faults, bad-offset, bad-entry, count-parts, place-parts, row-parts, parts, Finds}
 use Rattle.book.specs.Found.{first-true, First-in}
-use Rattle.book.proofs.Places.{Chain, alone-none, alone-some, first-in-front, first-in-rest}
+use Rattle.book.proofs.Parts.{Chain, alone-none, alone-some, first-in-front, first-in-rest}
 use Rattle.book.proofs.FirstTrue.{first-true-found}
 
 -- where the sections of the rows of one kind lie
@@ -52,7 +49,7 @@ module _ (s : Scale) (ws : List ℕ) (c : Counts) (names : Names) where
   pub in-offsets : (j first : ℕ) → first ≡ (offsets-at c names) .first → Offsets-give (Some j) → First-in (row-parts s ws c names) (Some (first + j))
   in-offsets j first is h =
       let found : First-in (offsets-part ∷ []) (Some ((offsets-at c names) .first + j)) =
-        alone-some offsets-part j (subst (λ n. Finds (bad-offset ws c names) 0 n (Some j)) (sym (offsets-size c names)) h)
+      alone-some offsets-part j (subst (λ n. Finds (bad-offset ws c names) 0 n (Some j)) (sym (offsets-size c names)) h)
       in
       subst (λ f. First-in (row-parts s ws c names) (Some (f + j))) (sym is)
       (first-in-front ((offsets-at c names) .first) (offsets-part ∷ []) (entries-part ∷ []) (refl, (entries-follow c names, tt))
@@ -61,7 +58,7 @@ module _ (s : Scale) (ws : List ℕ) (c : Counts) (names : Names) where
   pub in-entries : (j first : ℕ) → first ≡ (entries-at c names) .first → Offsets-give None → Entries-give (Some j) → First-in (row-parts s ws c names) (Some (first + j))
   in-entries j first is none h =
       let found : First-in (entries-part ∷ []) (Some ((entries-at c names) .first + j)) =
-        alone-some entries-part j (subst (λ n. Finds (bad-entry s ws c names) 0 n (Some j)) (sym (entries-size c names)) h)
+      alone-some entries-part j (subst (λ n. Finds (bad-entry s ws c names) 0 n (Some j)) (sym (entries-size c names)) h)
       in
       subst (λ f. First-in (row-parts s ws c names) (Some (f + j))) (sym is)
       (first-in-rest (offsets-part ∷ []) (entries-part ∷ []) (Some ((entries-at c names) .first + j)) (offsets-good none) found)

@@ -6,24 +6,16 @@ use mathlib.Core.Logic.{⊎-elim, _≢_}
 use Prim.Native.Nat.{ℕ, _+_, _<_, _≤_}
 use native.Mathlib.Omega.{arith}
 use lib.Dec.{eqb, leb}
-use lib.ListN.{length, getD, set, take, drop, replicate}
-use Rattle.std.proofs.shelf.Lists.{getD-replicate, length-replicate, length-set, getD-set-same, getD-set-other, take-more, getD-take, getD-drop, length-take, length-drop}
+use lib.ListN.{length, getD, set, take, replicate}
+use Rattle.std.proofs.shelf.Lists.{getD-replicate, length-replicate, length-set, getD-set-same, getD-set-other, take-more}
 use Rattle.std.proofs.shelf.Tests.{cases-eq, eq-eqb, ne-eqb, or-parts, not-false, and-parts, leb-true, cases-bool}
-use Rattle.std.proofs.shelf.Ways.{tells}
 use Rattle.drawing.specs.Edits.{within}
 use Rattle.book.specs.declared.counts.Counts.{Counts}
-use Rattle.book.specs.Layout.{word, Section, words-in, order-at, after}
+use Rattle.book.specs.Layout.{word, words-in, order-at, after}
 use Rattle.book.specs.Bad.{among, bad-border}
 use Rattle.book.specs.Found.{Marks}
 use Rattle.book.specs.Ready.{Ready}
-
--- the words of a section that lies within the words, by number
-module _ (x : Section) (ws : List ℕ) (fits : x .first + x .size ≤ length ws) where
-  pub section-length : length (words-in x ws) ≡ x .size
-  section-length = simp (length-take, length-drop) (omega arith)
-
-  pub section-word : (j : ℕ) → j < x .size → getD (words-in x ws) j 0 ≡ word ws (x .first + j)
-  section-word j h = rw (getD-take, getD-drop)
+use Rattle.book.proofs.SectionWords.{section-length, section-word}
 
 -- one element further
 pub among-push : (b x : ℕ) (bs : List ℕ) → among b (bs ++ x ∷ []) ≡ (eqb b x || among b bs)
@@ -42,8 +34,8 @@ marked-more seen bs x small m =
     record {
       all = length-set seen x true ∙ m .all;
       each = λ b h. rw among-push (⊎-elim (λ e. rw e here)
-        (λ ne. let other : b ≢ x = ne in rw (getD-set-other, ne-eqb b x ne) (m .each b h))
-        (cases-eq b x));
+          (λ ne. let other : b ≢ x = ne in rw (getD-set-other, ne-eqb b x ne) (m .each b h))
+          (cases-eq b x));
     }
 
 -- the marks after the border of rank j, which is a good one
@@ -54,11 +46,11 @@ border-marked ws c ready seen j x inside is good m =
     let longer : j < length order = rw (section-length (order-at c) ws fits) inside in
     let border = word ws ((order-at c) .first + j) in
     let lies : within 1 (c .junctions) border ≡ true =
-      not-false (within 1 (c .junctions) border) (or-parts _ (among border (take j order)) good .0)
+    not-false (within 1 (c .junctions) border) (or-parts _ (among border (take j order)) good .0)
     in
     let below = leb-true border (c .junctions) (and-parts (leb 1 border) (leb border (c .junctions)) lies .1) in
     let small : x < 4097 = omega arith in
     let more : take (j + 1) order ≡ take j order ++ x ∷ [] =
-      take-more order j 0 longer ∙ ap (λ y. take j order ++ y ∷ []) (section-word (order-at c) ws fits j inside ∙ sym is)
+    take-more order j 0 longer ∙ ap (λ y. take j order ++ y ∷ []) (section-word (order-at c) ws j inside ∙ sym is)
     in
     rw more (marked-more seen (take j order) x small m)

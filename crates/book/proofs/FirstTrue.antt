@@ -1,9 +1,9 @@
 -- The first of a list of tests that holds is what a search through the list finds. Assumes nothing.
-use mathlib.Core.Path.{_≡_, refl, sym, ap, _∙_, subst}
+use mathlib.Core.Path.{_≡_, refl, sym, _∙_, subst}
 use mathlib.Core.Bool.{Bool, true, false}
 use mathlib.Core.List.{List, [], _∷_}
 use mathlib.Core.Logic.{⊎-elim}
-use Prim.Native.Nat.{ℕ, suc, _+_, _-_, _<_, _≤_}
+use Prim.Native.Nat.{ℕ, suc, _+_, _-_, _≤_}
 use native.Mathlib.Nat.{sub-zero, zero-add}
 use native.Mathlib.Omega.{arith}
 use lib.ListN.{length, getD}
@@ -18,11 +18,14 @@ pub finds-earlier : (test other : ℕ → Bool) (k high : ℕ) (r : Option ℕ) 
 finds-earlier test other k high None same here h = λ j low less.
     ⊎-elim (λ lt. let e : j ≡ k = omega arith in rw e here) (λ ge. sym (same j (omega arith)) ∙ h j (omega arith) less)
     (cases-lt j (k + 1))
-finds-earlier test other k high (Some i) same here h =
-    (omega (arith, h .0), h .1, sym (same i (h .0)) ∙ h .2,
-      λ j low less.
-        ⊎-elim (λ lt. let e : j ≡ k = omega arith in rw e here) (λ ge. sym (same j (omega arith)) ∙ h .3 j (omega arith) less)
-        (cases-lt j (k + 1)))
+finds-earlier test other k high (Some i) same here h = (
+  omega (arith, h .0),
+  h .1,
+  sym (same i (h .0)) ∙ h .2,
+  λ j low less.
+      ⊎-elim (λ lt. let e : j ≡ k = omega arith in rw e here) (λ ge. sym (same j (omega arith)) ∙ h .3 j (omega arith) less)
+      (cases-lt j (k + 1)),
+)
 
 pub first-true-finds : (k : ℕ) (bs : List Bool) → Finds (λ i. getD bs (i - k) false) k (k + length bs) (first-true k bs)
 first-true-finds k [] = λ j low less. refl
@@ -31,7 +34,7 @@ first-true-finds k (true ∷ bs) =
 first-true-finds k (false ∷ bs) =
     let e : k - k ≡ 0 = omega arith in
     let same : (j : ℕ) → k + 1 ≤ j → getD bs (j - (k + 1)) false ≡ getD (false ∷ bs) (j - k) false = λ j low.
-      let f : j - k ≡ suc (j - (k + 1)) = omega arith in rw f refl
+    let f : j - k ≡ suc (j - (k + 1)) = omega arith in rw f refl
     in
     let size : k + suc (length bs) ≡ k + 1 + length bs = omega arith in
     finds-earlier (λ i. getD (false ∷ bs) (i - k) false) (λ i. getD bs (i - (k + 1)) false) k (k + suc (length bs))

@@ -1,4 +1,6 @@
+pub mod BookOpens
 pub mod BookParts
 pub mod Borders
 pub mod FirstTrue
-pub mod Places
+pub mod Parts
+pub mod SectionWords

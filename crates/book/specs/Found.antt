@@ -6,9 +6,8 @@ use Prim.Native.Nat.{ℕ, _+_, _*_, _<_, _≤_}
 use lib.ListN.{length, getD}
 use Rattle.std.specs.declared.option.Option.{Option}
 use Rattle.std.specs.declared.option.Option.the-variants.{Some, None}
-use Rattle.measure.specs.Scale.{Scale}
 use Rattle.book.specs.declared.counts.Counts.{Counts}
-use Rattle.book.specs.Bad.{among, Part, bad-in, First-bad, None-bad}
+use Rattle.book.specs.Bad.{among, Part, bad-in}
 
 -- the place of the first test that holds, if the first of the list stands at place k
 abbrev pub first-true : ℕ → List Bool → Option ℕ

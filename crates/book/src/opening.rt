@@ -9,19 +9,16 @@ ghost use Rattle.book.specs.Layout.{word, counts-of, total, words-in, order-at
 ghost use Rattle.book.specs.Opened.{open-checks, Opens-exactly-books};
 ghost use Rattle.book.specs.Ready.{Ready};
 ghost use Rattle.drawing.specs.Outcomes.{verdict};
-use super::entries::bad_entry;
 use super::Book;
 use super::Counts;
 use super::Names;
 use super::Span;
+use super::entries::bad_entry;
+use drawing::MOST_DISTRICTS;
+use drawing::MOST_JUNCTIONS;
 use drawing::Refusal;
 use drawing::Table;
 use measure::Measure;
-
-// The limits of a book.
-const MOST_JUNCTIONS: u64 = 4_096;
-
-const MOST_DISTRICTS: u64 = 64;
 
 // What the words must have before any of them can be bad: the book's number, the measure's tag, and as many words as they say.
 fn check_open<M: Measure>(words: &[u64]) -> Result<(), Refusal>
@@ -59,7 +56,8 @@ fn total_words(counts: &Counts) -> u64
     requires { ⌜ Few (now counts) ⌝ }
     ensures { λ r. ⌜ r ≡ total (now (counts .entry)) ⌝ }
 {
-    10 + 3 * counts.junctions
+    10
+        + 3 * counts.junctions
         + counts.borders
         + 2 * counts.border_entries
         + 2 * counts.district_entries

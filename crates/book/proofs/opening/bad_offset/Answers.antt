@@ -1,6 +1,6 @@
 use mathlib.Core.Path.{sym}
 use Rattle.book.specs.Bad.{bad-offset}
-use Rattle.book.proofs.Places.{none-more}
+use Rattle.book.proofs.Parts.{none-more}
 use Rattle.book.proofs.opening.bad_offset.Needs as need
 
 pub loop-j-again : need.loop-j-again

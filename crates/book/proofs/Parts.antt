@@ -1,12 +1,12 @@
 -- Where the first bad word of a list of parts stands. Assumes nothing.
-use mathlib.Core.Path.{_≡_, refl, sym, ap, _∙_}
+use mathlib.Core.Path.{_≡_, refl, sym, _∙_}
 use mathlib.Core.Bool.{Bool, true, false, _||_, _&&_}
 use mathlib.Core.List.{List, [], _∷_, _++_}
 use mathlib.Core.Logic.{⊎-elim}
 use Prim.Native.Nat.{ℕ, _+_, _-_, _<_, _≤_}
 use native.Mathlib.Omega.{arith}
 use lib.Dec.{leb, ltb}
-use Rattle.std.proofs.shelf.Tests.{cases-lt, cases-bool, or-parts, or-from, or-left, or-right, or-cases, and-parts, and-from, and-left, and-right, lt-leb, le-ltb, le-leb, lt-ltb, leb-true, ltb-true, false≢true}
+use Rattle.std.proofs.shelf.Tests.{cases-lt, or-parts, or-from, or-left, or-right, or-cases, and-parts, and-left, and-right, lt-leb, le-ltb, le-leb, lt-ltb, ltb-true, false≢true}
 use Rattle.std.specs.declared.option.Option.{Option}
 use Rattle.std.specs.declared.option.Option.the-variants.{Some, None}
 use Rattle.book.specs.Layout.{after}
@@ -28,8 +28,8 @@ module _ (p : Part) where
       let below = ltb i (after (p .lies)) in
       let bad = p .bad (i - p .lies .first) in
       let when-from : p .lies .first ≤ i → (below && bad) ≡ false = λ le.
-        ⊎-elim (λ lt. and-right below bad (h le lt)) (λ past. and-left below bad (le-ltb i (after (p .lies)) past))
-        (cases-lt i (after (p .lies)))
+      ⊎-elim (λ lt. and-right below bad (h le lt)) (λ past. and-left below bad (le-ltb i (after (p .lies)) past))
+      (cases-lt i (after (p .lies)))
       in
       ⊎-elim (λ low. and-left from (below && bad) (lt-leb (p .lies .first) i low))
       (λ le. and-right from (below && bad) (when-from le))
@@ -40,7 +40,7 @@ module _ (p : Part) where
       let same : p .lies .first + j - p .lies .first ≡ j = omega arith in
       let from : leb (p .lies .first) (p .lies .first + j) ≡ true = le-leb (p .lies .first) (p .lies .first + j) (omega arith) in
       let below : ltb (p .lies .first + j) (after (p .lies)) ≡ true =
-        lt-ltb (p .lies .first + j) (after (p .lies)) (omega arith)
+      lt-ltb (p .lies .first + j) (after (p .lies)) (omega arith)
       in
       rw (from, below, same) h
 
@@ -56,9 +56,10 @@ module _ (p : Part) where
   alone-none h i = or-from (bad-here p i) false (not-here i (λ from below. h (i - p .lies .first) (omega arith) (omega arith))) refl
 
   pub alone-some : (j : ℕ) → Finds (p .bad) 0 (p .lies .size) (Some j) → First-in (p ∷ []) (Some (p .lies .first + j))
-  alone-some j h =
-      (or-left (bad-here p (p .lies .first + j)) false (is-here j (h .1) (h .2)),
-        λ i less. or-from (bad-here p i) false (not-here i (λ from below. h .3 (i - p .lies .first) (omega arith) (omega arith))) refl)
+  alone-some j h = (
+    or-left (bad-here p (p .lies .first + j)) false (is-here j (h .1) (h .2)),
+    λ i less. or-from (bad-here p i) false (not-here i (λ from below. h .3 (i - p .lies .first) (omega arith) (omega arith))) refl,
+  )
 
 -- bad in one of two lists of parts
 pub bad-in-append : (ps qs : List Part) (i : ℕ) → bad-in (ps ++ qs) i ≡ (bad-in ps i || bad-in qs i)
@@ -87,20 +88,22 @@ later-is-good f [] qs chain i j h le = absurd (false≢true h)
 later-is-good f (p ∷ ps) qs chain i j h le =
     ⊎-elim
     (λ here.
-      let end = ends-here p i here in
-      or-parts (bad-in ps j) (bad-in qs j) (sym (bad-in-append ps qs j) ∙ before-all (after (p .lies)) (ps ++ qs) (chain .1) j (omega arith)) .1)
+    let end = ends-here p i here in
+    or-parts (bad-in ps j) (bad-in qs j) (sym (bad-in-append ps qs j) ∙ before-all (after (p .lies)) (ps ++ qs) (chain .1) j (omega arith)) .1)
     (λ there. later-is-good (after (p .lies)) ps qs (chain .1) i j there le)
     (or-cases (bad-here p i) (bad-in ps i) h)
 
 -- the first bad word, where it stands in the parts before
 pub first-in-front : (f : ℕ) (ps qs : List Part) → Chain f (ps ++ qs) → (i : ℕ) → First-in ps (Some i) → First-in (ps ++ qs) (Some i)
-first-in-front f ps qs chain i h =
-    (bad-in-append ps qs i ∙ or-left (bad-in ps i) (bad-in qs i) (h .0),
-      λ j less. bad-in-append ps qs j ∙ or-from (bad-in ps j) (bad-in qs j) (h .1 j less) (later-is-good f ps qs chain i j (h .0) (omega arith)))
+first-in-front f ps qs chain i h = (
+  bad-in-append ps qs i ∙ or-left (bad-in ps i) (bad-in qs i) (h .0),
+  λ j less. bad-in-append ps qs j ∙ or-from (bad-in ps j) (bad-in qs j) (h .1 j less) (later-is-good f ps qs chain i j (h .0) (omega arith)),
+)
 
 -- the first bad word, where none stands in the parts before
 pub first-in-rest : (ps qs : List Part) (r : Option ℕ) → First-in ps None → First-in qs r → First-in (ps ++ qs) r
 first-in-rest ps qs None none h = λ i. bad-in-append ps qs i ∙ or-from (bad-in ps i) (bad-in qs i) (none i) (h i)
-first-in-rest ps qs (Some i) none h =
-    (bad-in-append ps qs i ∙ or-right (bad-in ps i) (bad-in qs i) (h .0),
-      λ j less. bad-in-append ps qs j ∙ or-from (bad-in ps j) (bad-in qs j) (none j) (h .1 j less))
+first-in-rest ps qs (Some i) none h = (
+  bad-in-append ps qs i ∙ or-right (bad-in ps i) (bad-in qs i) (h .0),
+  λ j less. bad-in-append ps qs j ∙ or-from (bad-in ps j) (bad-in qs j) (none j) (h .1 j less),
+)
