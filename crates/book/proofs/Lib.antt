@@ -10,3 +10,9 @@ pub mod NothingBad
 pub mod BookSections
 pub mod BookLaidOut
 pub mod BookWritten
+pub mod BookOpens
+pub mod BookParts
+pub mod Borders
+pub mod FirstTrue
+pub mod Parts
+pub mod SectionWords

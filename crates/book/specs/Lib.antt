@@ -3,6 +3,7 @@ pub mod Words
 pub mod Bad
 pub mod Ready
 pub mod InRow
+pub mod Found
 pub mod Opened
 pub mod Cases
 pub mod Written
