@@ -1,6 +1,6 @@
 -- The parts of a book follow one another; where its first bad word stands, by what the search of each part finds. Assumes nothing.
-use mathlib.Core.Path.{_≡_, refl, sym, subst}
-use mathlib.Core.List.{List, [], _∷_, _++_}
+use mathlib.Core.Path.{_≡_, refl, subst}
+use mathlib.Core.List.{List, _++_}
 use Prim.Native.Nat.{ℕ, _+_, _*_}
 use native.Mathlib.Nat.{zero-add}
 use Rattle.std.specs.declared.option.Option.{Option}
@@ -9,10 +9,10 @@ use Rattle.measure.specs.Scale.{Scale}
 use Rattle.book.specs.declared.counts.Counts.{Counts}
 use Rattle.book.specs.declared.names.Names.{Names}
 use Rattle.book.specs.declared.names.Names.the-variants.{Ranks, Hubs}
-use Rattle.book.specs.Layout.{after, section}
-use Rattle.book.specs.Bad.{Part, part, offsets-at, entries-at, entry-count, bad-count, count-faults, bad-offset, bad-entry, count-parts, place-parts, row-parts, parts, Finds}
+use Rattle.book.specs.Layout.{after, section, places-at, order-at}
+use Rattle.book.specs.Bad.{Part, part, offsets-at, entries-at, entry-count, bad-count, count-faults, bad-district, bad-border, bad-offset, bad-entry, count-parts, place-parts, row-parts, parts, Finds}
 use Rattle.book.specs.Found.{first-true, First-in}
-use Rattle.book.proofs.Parts.{Chain, alone-none, alone-some, first-in-front, first-in-rest}
+use Rattle.book.proofs.Parts.{Chain, alone-none, alone-some, first-in-front, first-in-rest, pair-front, pair-back, pair-good}
 use Rattle.book.proofs.FirstTrue.{first-true-found}
 
 -- where the sections of the rows of one kind lie
@@ -36,37 +36,32 @@ module _ (s : Scale) (ws : List ℕ) (c : Counts) (names : Names) where
   abbrev entries-part : Part
   entries-part = part (entries-at c names) (bad-entry s ws c names)
 
-  abbrev Offsets-give : Option ℕ → Type 0
-  Offsets-give r = Finds (bad-offset ws c names) 0 (c .junctions + 1) r
+  abbrev offset-number : ℕ
+  offset-number = c .junctions + 1
 
-  abbrev Entries-give : Option ℕ → Type 0
-  Entries-give r = Finds (bad-entry s ws c names) 0 (2 * entry-count c names) r
+  abbrev entry-words : ℕ
+  entry-words = 2 * entry-count c names
 
-  offsets-good : Offsets-give None → First-in (offsets-part ∷ []) None
-  offsets-good h =
-      alone-none offsets-part (subst (λ n. Finds (bad-offset ws c names) 0 n None) (sym (offsets-size c names)) h)
+  pub in-offsets : (j first : ℕ) → first ≡ (offsets-at c names) .first → Finds (bad-offset ws c names) 0 offset-number (Some j) → First-in (row-parts s ws c names) (Some (first + j))
+  in-offsets =
+      pair-front offsets-part entries-part offset-number entry-words (offsets-size c names) (entries-size c names)
+      (entries-follow c names)
 
-  pub in-offsets : (j first : ℕ) → first ≡ (offsets-at c names) .first → Offsets-give (Some j) → First-in (row-parts s ws c names) (Some (first + j))
-  in-offsets j first is h =
-      let found : First-in (offsets-part ∷ []) (Some ((offsets-at c names) .first + j)) =
-      alone-some offsets-part j (subst (λ n. Finds (bad-offset ws c names) 0 n (Some j)) (sym (offsets-size c names)) h)
-      in
-      subst (λ f. First-in (row-parts s ws c names) (Some (f + j))) (sym is)
-      (first-in-front ((offsets-at c names) .first) (offsets-part ∷ []) (entries-part ∷ []) (refl, (entries-follow c names, tt))
-      ((offsets-at c names) .first + j) found)
+  pub in-entries : (j first : ℕ) → first ≡ (entries-at c names) .first → Finds (bad-offset ws c names) 0 offset-number None → Finds (bad-entry s ws c names) 0 entry-words (Some j) → First-in (row-parts s ws c names) (Some (first + j))
+  in-entries =
+      pair-back offsets-part entries-part offset-number entry-words (offsets-size c names) (entries-size c names)
+      (entries-follow c names)
 
-  pub in-entries : (j first : ℕ) → first ≡ (entries-at c names) .first → Offsets-give None → Entries-give (Some j) → First-in (row-parts s ws c names) (Some (first + j))
-  in-entries j first is none h =
-      let found : First-in (entries-part ∷ []) (Some ((entries-at c names) .first + j)) =
-      alone-some entries-part j (subst (λ n. Finds (bad-entry s ws c names) 0 n (Some j)) (sym (entries-size c names)) h)
-      in
-      subst (λ f. First-in (row-parts s ws c names) (Some (f + j))) (sym is)
-      (first-in-rest (offsets-part ∷ []) (entries-part ∷ []) (Some ((entries-at c names) .first + j)) (offsets-good none) found)
+  pub rows-good : Finds (bad-offset ws c names) 0 offset-number None → Finds (bad-entry s ws c names) 0 entry-words None → First-in (row-parts s ws c names) None
+  rows-good =
+      pair-good offsets-part entries-part offset-number entry-words (offsets-size c names) (entries-size c names)
+      (entries-follow c names)
 
-  pub rows-good : Offsets-give None → Entries-give None → First-in (row-parts s ws c names) None
-  rows-good none h =
-      first-in-rest (offsets-part ∷ []) (entries-part ∷ []) None (offsets-good none)
-      (alone-none entries-part (subst (λ n. Finds (bad-entry s ws c names) 0 n None) (sym (entries-size c names)) h))
+-- the border order, after the districts
+pub in-order : (ws : List ℕ) (c : Counts) (j first : ℕ) → first ≡ (order-at c) .first → Finds (bad-district ws c) 0 (c .junctions) None → Finds (bad-border ws c) 0 (c .borders) (Some j) → First-in (place-parts ws c) (Some (first + j))
+in-order ws c =
+    pair-back (part (places-at c) (bad-district ws c)) (part (order-at c) (bad-border ws c)) (c .junctions) (c .borders) refl refl
+    refl
 
 -- the counts
 module _ (c : Counts) where

@@ -1,5 +1,5 @@
 -- Where the first bad word of a list of parts stands. Assumes nothing.
-use mathlib.Core.Path.{_≡_, refl, sym, _∙_}
+use mathlib.Core.Path.{_≡_, refl, sym, _∙_, subst}
 use mathlib.Core.Bool.{Bool, true, false, _||_, _&&_}
 use mathlib.Core.List.{List, [], _∷_, _++_}
 use mathlib.Core.Logic.{⊎-elim}
@@ -107,3 +107,25 @@ first-in-rest ps qs (Some i) none h = (
   bad-in-append ps qs i ∙ or-right (bad-in ps i) (bad-in qs i) (h .0),
   λ j less. bad-in-append ps qs j ∙ or-from (bad-in ps j) (bad-in qs j) (none j) (h .1 j less),
 )
+
+-- two parts, one after the other, of n and of m words
+module _ (p q : Part) (n m : ℕ) (front : p .lies .size ≡ n) (back : q .lies .size ≡ m) (follows : q .lies .first ≡ after (p .lies)) where
+  front-good : Finds (p .bad) 0 n None → First-in (p ∷ []) None
+  front-good h = alone-none p (subst (λ k. Finds (p .bad) 0 k None) (sym front) h)
+
+  pub pair-front : (j first : ℕ) → first ≡ p .lies .first → Finds (p .bad) 0 n (Some j) → First-in (p ∷ q ∷ []) (Some (first + j))
+  pair-front j first is h =
+      subst (λ f. First-in (p ∷ q ∷ []) (Some (f + j))) (sym is)
+      (first-in-front (p .lies .first) (p ∷ []) (q ∷ []) (refl, (follows, tt)) (p .lies .first + j)
+      (alone-some p j (subst (λ k. Finds (p .bad) 0 k (Some j)) (sym front) h)))
+
+  pub pair-back : (j first : ℕ) → first ≡ q .lies .first → Finds (p .bad) 0 n None → Finds (q .bad) 0 m (Some j) → First-in (p ∷ q ∷ []) (Some (first + j))
+  pair-back j first is none h =
+      subst (λ f. First-in (p ∷ q ∷ []) (Some (f + j))) (sym is)
+      (first-in-rest (p ∷ []) (q ∷ []) (Some (q .lies .first + j)) (front-good none)
+      (alone-some q j (subst (λ k. Finds (q .bad) 0 k (Some j)) (sym back) h)))
+
+  pub pair-good : Finds (p .bad) 0 n None → Finds (q .bad) 0 m None → First-in (p ∷ q ∷ []) None
+  pair-good none h =
+      first-in-rest (p ∷ []) (q ∷ []) None (front-good none)
+      (alone-none q (subst (λ k. Finds (q .bad) 0 k None) (sym back) h))
