@@ -3,3 +3,4 @@ pub mod Words
 pub mod Bad
 pub mod Ready
 pub mod Opened
+pub mod Joining

@@ -1,5 +1,6 @@
 // The words of a book, opening it, its rows, and the join of two rows.
 mod counts;
+mod cursor;
 mod entries;
 mod joining;
 mod names;
