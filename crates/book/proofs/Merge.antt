@@ -158,8 +158,8 @@ module _ (s : Scale) (laws : Laws s) where
   kept-is-worthy best x h w v =
       let after : (b : Option (ℕ × ℕ)) → Worthy s b → Worthy s (kept-of s b x h) = λ b.
       elim b as (λ b. Worthy s b → Worthy s (kept-of s b x h)) [
-        None ↦ λ w. v
-      | Some y ↦ λ w. cond-both (s .better (counts s x) (counts s (y .0))) (Some (x, h)) (Some y) (Worthy s) (λ t. v) (λ t. w)
+        | None ↦ λ w. v
+        | Some y ↦ λ w. cond-both (s .better (counts s x) (counts s (y .0))) (Some (x, h)) (Some y) (Worthy s) (λ t. v) (λ t. w)
       ] in
       cond-both (eqb x (s .none)) best (kept-of s best x h) (Worthy s) (λ t. w) (λ t. after best w)
 
