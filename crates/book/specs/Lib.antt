@@ -4,3 +4,4 @@ pub mod Bad
 pub mod Ready
 pub mod Opened
 pub mod Joining
+pub mod Parts

@@ -2,7 +2,9 @@
 ghost use Prim.Native.Nat.{_≤_};
 ghost use Rattle.book.specs.Layout.{total, Is-section};
 ghost use Rattle.book.specs.Layout.{places-at, order-at, border-offsets-at, border-entries-at, district-offsets-at, district-entries-at};
+ghost use Rattle.book.specs.Bad.{offsets-at, entries-at};
 use super::Counts;
+use super::Names;
 use super::Span;
 
 impl Counts {
@@ -62,5 +64,25 @@ impl Counts {
             self.district_entries.saturating_mul(2),
             self.words,
         )
+    }
+
+    // The offsets of the rows with these names.
+    pub fn offsets(&self, names: Names) -> Span
+        ensures { λ r. ⌜ Is-section (now (self .entry)) (λ c. offsets-at c names) r ⌝ }
+    {
+        match names {
+            Names::Ranks => self.border_offsets(),
+            Names::Hubs => self.district_offsets(),
+        }
+    }
+
+    // The entries of the rows with these names.
+    pub fn entries(&self, names: Names) -> Span
+        ensures { λ r. ⌜ Is-section (now (self .entry)) (λ c. entries-at c names) r ⌝ }
+    {
+        match names {
+            Names::Ranks => self.border_entries(),
+            Names::Hubs => self.district_entries(),
+        }
     }
 }
