@@ -1,3 +1,4 @@
 pub mod Merge
 pub mod IsBook
 pub mod RowAt
+pub mod SectionWords

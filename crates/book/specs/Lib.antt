@@ -5,3 +5,4 @@ pub mod Ready
 pub mod Opened
 pub mod Joining
 pub mod Parts
+pub mod Told

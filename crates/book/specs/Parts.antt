@@ -7,7 +7,7 @@ use denote.Ref.{RefT}
 use Rattle.std.specs.declared.result.Result.{Result}
 use Rattle.std.specs.declared.result.Result.the-variants.{Ok, Err}
 use Rattle.drawing.specs.declared.refusal.Refusal.{Refusal}
-use Rattle.book.specs.Layout.{total, Section, section, Spans}
+use Rattle.book.specs.Layout.{word, total, Section, section, Spans}
 use Rattle.book.specs.Bad.{entries-at, entry-count, offset}
 use Rattle.book.specs.declared.names.Names.{Names}
 use Rattle.book.specs.declared.counts.Counts.{Counts}
@@ -17,6 +17,10 @@ use Rattle.book.specs.declared.span.Span.{Span}
 abbrev pub Is-part : List ℕ → Span → Result (RefT (List ℕ)) Refusal → Type 0
 Is-part ws p (Ok part) = part .now ≡ take (p .length) (drop (p .first) ws)
 Is-part ws p (Err x) = length ws < p .total
+
+-- x is word number j of the span, if it has so many
+abbrev pub Is-word : List ℕ → Span → ℕ → ℕ → Type 0
+Is-word ws p j x = j < p .length → x ≡ word ws (p .first + j)
 
 -- Where the counts do not need more words than they say there are, x is offset number j.
 abbrev pub Is-offset : List ℕ → Counts → Names → ℕ → ℕ → Type 0

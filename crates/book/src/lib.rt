@@ -9,6 +9,7 @@ mod opening;
 mod rows;
 mod sections;
 mod span;
+mod told;
 
 pub use counts::Counts;
 pub use names::Names;

@@ -1,10 +1,8 @@
 // The rows of an opened book.
 ghost use Rattle.book.specs.Opened.{Hands-out-the-row};
-ghost use Rattle.book.specs.Parts.{Is-part, Is-offset, Is-stretch};
-ghost use Rattle.book.specs.Layout.{word};
+ghost use Rattle.book.specs.Parts.{Is-part, Is-word, Is-offset, Is-stretch};
 ghost use Rattle.book.specs.declared.names.Names.the-variants.{Ranks, Hubs};
 ghost use Rattle.measure.specs.Scale.{Scale};
-ghost use mathlib.Core.Path.{_≡_};
 use super::Book;
 use super::Counts;
 use super::Names;
@@ -34,11 +32,11 @@ impl Counts {
 }
 
 impl<'a> Book<'a> {
-    // The word at a place, and 0 where there is none.
-    fn read(&self, place: u64) -> u64
-        ensures { λ r. ⌜ r ≡ word (now (now (self .entry) .words)) place ⌝ }
+    // Word number j of a section.
+    pub(crate) fn word_in(&self, section: Span, j: u64) -> u64
+        ensures { λ r. ⌜ Is-word (now (now (self .entry) .words)) section j r ⌝ }
     {
-        match self.words.get(place as usize) {
+        match self.words.get(section.first.saturating_add(j) as usize) {
             Some(word) => *word,
             None => 0,
         }
@@ -48,7 +46,7 @@ impl<'a> Book<'a> {
     fn offset(&self, names: Names, j: u64) -> u64
         ensures { λ r. ⌜ Is-offset (now (now (self .entry) .words)) (now (self .entry) .counts) names j r ⌝ }
     {
-        self.read(self.counts.offsets(names).first.saturating_add(j))
+        self.word_in(self.counts.offsets(names), j)
     }
 
     // The row of a junction, among the rows with these names.
