@@ -184,7 +184,7 @@ module _ (s : Scale) (laws : Laws s) where
       ⊎-elim (λ t. rw t refl) (λ t. rw t (keep-offer best x h os w v vs)) (cases-bool (eqb x (s .none)))
 
 module _ (s : Scale) where
-  values : (p : List Entry) → All (λ e. Proper s (e .worth)) p → All-values s p
+  pub values : (p : List Entry) → All (λ e. Proper s (e .worth)) p → All-values s p
   values p h = all-weaker (λ e. Proper s (e .worth)) (λ e. Value s (e .worth)) (λ e x. x .0) p h
 
   rest-is-row : (h x : ℕ) (p : List ℕ) → Is-row s (h ∷ x ∷ p) → Is-row s p

@@ -2,19 +2,21 @@
 use mathlib.Core.Path.{_≡_}
 use mathlib.Core.Bool.{cond, not}
 use mathlib.Core.List.{List, [], _∷_}
-use Prim.Native.Nat.{ℕ, _+_, _-_}
+use Prim.Native.Nat.{ℕ, _+_, _-_, _<_}
 use lib.Dec.{ltb}
 use lib.ListN.{getD}
 use Rattle.std.specs.declared.option.Option.{Option}
 use Rattle.std.specs.declared.option.Option.the-variants.{Some, None}
 use Rattle.std.specs.declared.result.Result.{Result}
+use Rattle.std.specs.shelf.Lists.{All}
 use Rattle.measure.specs.Scale.{Scale}
+use Rattle.network.specs.Labels.{meet}
 use Rattle.drawing.specs.Edits.{within}
 use Rattle.drawing.specs.Outcomes.{refuse, verdict, Ends}
 use Rattle.drawing.specs.declared.refusal.Refusal.{Refusal}
 use Rattle.drawing.specs.declared.refusal.Refusal.the-variants.{NoJunction}
-use Rattle.book.specs.Layout.{word, counts-of, places-at, order-at, words-in}
-use Rattle.book.specs.Opened.{Is-book, Shows}
+use Rattle.book.specs.Layout.{word, counts-of, places-at, order-at, words-in, entries}
+use Rattle.book.specs.Opened.{Is-book, Shows, Is-row, as-pair-by-rank}
 use Rattle.book.specs.declared.opened.Book.{Book}
 
 -- A call on an opened book answers x, where f says what that is by the book's words.
@@ -39,3 +41,14 @@ border-of ws rank = cond (ltb rank (word ws 4)) (Some (getD (border-order ws) ra
 -- A call on an opened book answers the border of this rank.
 abbrev pub Tells-the-border : Scale → Book → ℕ → Option ℕ → Type 0
 Tells-the-border s b rank r = (ws : List ℕ) → Is-book s ws → Shows ws b → r ≡ border-of ws rank
+
+-- the words of a row whose names are ranks in the book's border order
+pub record Is-border-row (s : Scale) (ws p : List ℕ) : Type 0 where
+  pub row : Is-row s p
+  pub ranks : All (λ e. e .hub < word ws 4) (entries p)
+
+-- A call on an opened book joins two of its border rows: the best joined value, and the first border that gives it.
+abbrev pub Joins-border-rows : Scale → Book → List ℕ → List ℕ → Option (ℕ × ℕ) → Type 0
+Joins-border-rows s b p q r =
+    (ws : List ℕ) → Is-book s ws → Shows ws b → Is-border-row s ws p → Is-border-row s ws q
+    → r ≡ as-pair-by-rank (border-order ws) (meet s (entries p) (entries q))

@@ -3,6 +3,7 @@ mod counts;
 mod cursor;
 mod entries;
 mod joining;
+mod meeting;
 mod names;
 mod opened;
 mod opening;
