@@ -25,26 +25,8 @@ use Rattle.book.specs.declared.names.Names.{Names}
 use Rattle.book.specs.declared.opened.Book.{Book}
 use Rattle.book.specs.declared.span.Span.{Span}
 use Rattle.book.proofs.IsBook.{ready, good-offsets}
-
--- offset number j is no less than the one before it, and no more than there are entries
-pub record Rises (ws : List ℕ) (c : Counts) (names : Names) (j : ℕ) : Type 0 where
-  pub no-less : offset ws c names (j - 1) ≤ offset ws c names j
-  pub no-more : offset ws c names j ≤ entry-count c names
-
-pub good-offset-rises :
-    (ws : List ℕ) (c : Counts) (names : Names) (j : ℕ) → 1 ≤ j → bad-offset ws c names j ≡ false → Rises ws c names j
-good-offset-rises ws c names j low e =
-    let here = offset ws c names j in
-    let before = offset ws c names (j - 1) in
-    let falls : Bool = cond (eqb j 0) (not (eqb here 0)) (ltb here before) in
-    let passes : Bool = ltb (entry-count c names) here in
-    let stops : Bool = eqb j (c .junctions) && not (eqb here (entry-count c names)) in
-    let t = or-parts falls passes (or-parts (falls || passes) stops e .0) in
-    let later : falls ≡ ltb here before = cond-false (eqb j 0) (not (eqb here 0)) (ltb here before) (ne-eqb j 0 (λ z. omega arith)) in
-    record {
-      no-less = ltb-false here before (sym later ∙ t .0);
-      no-more = ltb-false (entry-count c names) here (t .1);
-    }
+use Rattle.book.proofs.RowsOfEntries.{next-offset, offset-within}
+use Rattle.book.proofs.Telling.{is-within}
 
 -- what was handed out of words that are all there is the part that the span says
 part-is-there :
@@ -65,19 +47,19 @@ module _ (s : Scale) (names : Names) (v : ℕ) (r : Result (RefT (List ℕ)) Ref
   of-words ws book low high at-begin at-end spans h =
       let c = counts-of ws in
       let good = ready s ws book in
-      let rises = good-offset-rises ws c names v low (good-offsets s ws book names v high) in
+      let offsets = good-offsets s ws book names in
+      let rises = next-offset ws c names offsets v low high in
+      let few = offset-within ws c names offsets v high in
       let enough : total c ≤ c .words = omega arith in
       let is-begin : begin ≡ offset ws c names (v - 1) = at-begin enough (omega arith) in
       let is-end : end ≡ offset ws c names v = at-end enough high in
       let is-span : Spans (stretch c names begin end) (c .words) p = spans enough (omega arith) (omega arith) in
-      let inside : within 1 (word ws 2) v ≡ true =
-      and-from (leb 1 v) (leb v (word ws 2)) (le-leb 1 v low) (le-leb v (word ws 2) high) in
       let same : take (p .length) (drop (p .first) ws) ≡ row-words ws names v =
       ap (λ n. take n (drop (p .first) ws)) (is-span .length)
       ∙ ap (λ n. take (2 * (end - begin)) (drop n ws)) (is-span .first)
       ∙ ap (λ n. words-in (stretch c names n end) ws) is-begin
       ∙ ap (λ n. words-in (stretch c names (offset ws c names (v - 1)) n) ws) is-end in
-      rw inside (part-is-there ws (row-words ws names v) p r (omega arith) same h)
+      rw (is-within (word ws 2) v low high) (part-is-there ws (row-words ws names v) p r (omega arith) same h)
 
   pub hands-out :
       (ws : List ℕ) (b : Book) → Is-book s ws → Shows ws b → 1 ≤ v → v ≤ b .counts .junctions

@@ -2,6 +2,7 @@ pub mod Layout
 pub mod Words
 pub mod Bad
 pub mod Ready
+pub mod InRow
 pub mod Opened
 pub mod Joining
 pub mod Parts

@@ -1,4 +1,4 @@
-use Rattle.book.proofs.SectionWords.{tells-the-border}
+use Rattle.book.proofs.Telling.{tells-the-border}
 use Rattle.book.proofs.opened.Book.border.Needs as need
 
 pub returns : need.returns

@@ -1,4 +1,4 @@
-use Rattle.book.proofs.SectionWords.{tells-the-district}
+use Rattle.book.proofs.Telling.{tells-the-district}
 use Rattle.book.proofs.opened.Book.district.Needs as need
 
 pub returns : need.returns
