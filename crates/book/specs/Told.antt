@@ -1,8 +1,8 @@
 -- What an opened book tells of its junctions and borders. Assumes nothing.
 use mathlib.Core.Path.{_≡_}
-use mathlib.Core.Bool.{cond, not}
+use mathlib.Core.Bool.{true, cond, not}
 use mathlib.Core.List.{List, [], _∷_}
-use Prim.Native.Nat.{ℕ, _+_, _-_, _<_}
+use Prim.Native.Nat.{ℕ, _+_, _-_, _≤_, _<_}
 use lib.Dec.{ltb}
 use lib.ListN.{getD}
 use Rattle.std.specs.declared.option.Option.{Option}
@@ -16,7 +16,9 @@ use Rattle.drawing.specs.Outcomes.{refuse, verdict, Ends}
 use Rattle.drawing.specs.declared.refusal.Refusal.{Refusal}
 use Rattle.drawing.specs.declared.refusal.Refusal.the-variants.{NoJunction}
 use Rattle.book.specs.Layout.{word, counts-of, places-at, order-at, words-in, entries}
-use Rattle.book.specs.Opened.{Is-book, Shows, Is-row, as-pair-by-rank}
+use Rattle.book.specs.Bad.{right-name}
+use Rattle.book.specs.Opened.{Is-book, Shows, Is-row, row-words, as-pair-by-rank}
+use Rattle.book.specs.declared.names.Names.the-variants.{Ranks, Hubs}
 use Rattle.book.specs.declared.opened.Book.{Book}
 
 -- A call on an opened book answers x, where f says what that is by the book's words.
@@ -52,3 +54,13 @@ abbrev pub Joins-border-rows : Scale → Book → List ℕ → List ℕ → Opti
 Joins-border-rows s b p q r =
     (ws : List ℕ) → Is-book s ws → Shows ws b → Is-border-row s ws p → Is-border-row s ws q
     → r ≡ as-pair-by-rank (border-order ws) (meet s (entries p) (entries q))
+
+-- the words of a row of junction v whose names are junctions of its district
+pub record Is-district-row (s : Scale) (ws : List ℕ) (v : ℕ) (p : List ℕ) : Type 0 where
+  pub row : Is-row s p
+  pub hubs : All (λ e. right-name ws (counts-of ws) Hubs v (e .hub) ≡ true) (entries p)
+
+-- The rows that a book hands out are rows that can be joined.
+pub record Rows-are-rows (s : Scale) (ws : List ℕ) : Type 0 where
+  pub border-rows : (v : ℕ) → 1 ≤ v → v ≤ word ws 2 → Is-border-row s ws (row-words ws Ranks v)
+  pub district-rows : (v : ℕ) → 1 ≤ v → v ≤ word ws 2 → Is-district-row s ws v (row-words ws Hubs v)

@@ -13,6 +13,8 @@ mod span;
 mod told;
 
 pub use counts::Counts;
+pub use joining::join_rows;
+pub use meeting::rows_are_rows;
 pub use names::Names;
 pub use opened::Book;
 pub use opening::open;

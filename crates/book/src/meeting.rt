@@ -1,6 +1,8 @@
 // Two rows of an opened book joined.
-ghost use Rattle.book.specs.Opened.{Joins-two-rows};
-ghost use Rattle.book.specs.Told.{Joins-border-rows};
+ghost use Prim.Native.Nat.{ℕ};
+ghost use mathlib.Core.List.{List};
+ghost use Rattle.book.specs.Opened.{Is-book, Joins-two-rows};
+ghost use Rattle.book.specs.Told.{Joins-border-rows, Rows-are-rows};
 use super::Book;
 use super::joining::join_rows;
 use measure::Measure;
@@ -26,3 +28,8 @@ impl<'a> Book<'a> {
         join_rows::<M>(first, second)
     }
 }
+
+// The theorem that the rows which an opened book hands out are rows; the call itself does nothing.
+pub fn rows_are_rows<M: Measure>()
+    ensures { λ _. ⌜ ((ws : List ℕ) → Is-book (M·Measure .scale) ws → Rows-are-rows (M·Measure .scale) ws) ⌝ }
+{}
