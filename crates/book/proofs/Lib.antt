@@ -16,3 +16,9 @@ pub mod Borders
 pub mod FirstTrue
 pub mod Parts
 pub mod SectionWords
+pub mod Merge
+pub mod IsBook
+pub mod Telling
+pub mod RowAt
+pub mod ByRank
+pub mod RowOfBook

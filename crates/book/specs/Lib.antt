@@ -7,3 +7,6 @@ pub mod Found
 pub mod Opened
 pub mod Cases
 pub mod Written
+pub mod Joining
+pub mod Parts
+pub mod Told

@@ -1,7 +1,9 @@
 // The words of a book, opening it, its rows, and the join of two rows.
 mod counts;
+mod cursor;
 mod entries;
 mod joining;
+mod meeting;
 mod names;
 mod opened;
 mod opening;
@@ -10,8 +12,11 @@ mod sections;
 mod span;
 mod worked;
 mod written;
+mod told;
 
 pub use counts::Counts;
+pub use joining::join_rows;
+pub use meeting::rows_are_rows;
 pub use names::Names;
 pub use opened::Book;
 pub use opening::open;
