@@ -60,9 +60,10 @@ module _ (ws : List ℕ) where
       (P : Entry → Type 0) (n f : ℕ) → f + 2 * n ≤ length ws → ((k : ℕ) → k < n → P (entry-from f k)) → All P (entries (some-entries n f))
   all-of-them P zero f there h = tt
   all-of-them P (suc n) f there h =
-      subst (λ xs. All P (entries xs)) (sym (one-entry-first n f there))
-      (subst P (sym (here f)) (h 0 (omega arith)),
-      all-of-them P n (f + 2) (omega arith) (λ k l. subst P (sym (later f k)) (h (suc k) (omega arith))))
+      subst (λ xs. All P (entries xs)) (sym (one-entry-first n f there)) (
+        subst P (sym (here f)) (h 0 (omega arith)),
+        all-of-them P n (f + 2) (omega arith) (λ k l. subst P (sym (later f k)) (h (suc k) (omega arith))),
+      )
 
   they-are-whole : (n f : ℕ) → f + 2 * n ≤ length ws → some-entries n f ≡ entry-words (entries (some-entries n f))
   they-are-whole zero f there = refl
@@ -203,12 +204,12 @@ module _ (s : Scale) (ws : List ℕ) (book : Is-book s ws) (names : Names) (v : 
 pub rows-are-rows : (s : Scale) (ws : List ℕ) → Is-book s ws → Rows-are-rows s ws
 rows-are-rows s ws book = record {
   border-rows = λ v low high. record {
-      row = row-is-a-row s ws book Ranks v low high;
-      ranks = all-weaker (λ e. right-name ws (counts-of ws) Ranks v (e .hub) ≡ true) (λ e. e .hub < word ws 4)
-          (λ e. right-rank ws (counts-of ws) v (e .hub)) (entries (row-words ws Ranks v)) (row-names-are-right s ws book Ranks v low high);
-    };
+    row = row-is-a-row s ws book Ranks v low high;
+    ranks = all-weaker (λ e. right-name ws (counts-of ws) Ranks v (e .hub) ≡ true) (λ e. e .hub < word ws 4)
+        (λ e. right-rank ws (counts-of ws) v (e .hub)) (entries (row-words ws Ranks v)) (row-names-are-right s ws book Ranks v low high);
+  };
   district-rows = λ v low high. record {
-      row = row-is-a-row s ws book Hubs v low high;
-      hubs = row-names-are-right s ws book Hubs v low high;
-    };
+    row = row-is-a-row s ws book Hubs v low high;
+    hubs = row-names-are-right s ws book Hubs v low high;
+  };
 }

@@ -10,9 +10,9 @@ mod opening;
 mod rows;
 mod sections;
 mod span;
+mod told;
 mod worked;
 mod written;
-mod told;
 
 pub use counts::Counts;
 pub use joining::join_rows;
