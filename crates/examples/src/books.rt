@@ -152,3 +152,34 @@ fn damaged_books() -> Result<(), Fail> {
     let mut words = BOOK;
     changed_everywhere(&mut words)
 }
+
+#[test]
+fn rows_and_joins() -> Result<(), Fail> {
+    let book = open::<Metres>(&BOOK)?;
+    let row = book.border_row(6)?;
+    check(row == &[0, 500, 1, 750, 2, 550, 3, 400])?;
+    let second = book.border_row(2)?;
+    check_eq(
+        book.meet_border_rows::<Metres>(second, row),
+        Some((1_200, 1)),
+    )?;
+    check_eq(
+        book.meet_border_rows::<Metres>(book.border_row(3)?, row),
+        Some((750, 3)),
+    )?;
+    let first = book.district_row(1)?;
+    let third = book.district_row(3)?;
+    check(third == &[1, 450, 2, 900, 3, 0])?;
+    check_eq(
+        book.meet_district_rows::<Metres>(first, third),
+        Some((450, 1)),
+    )?;
+    check_eq(
+        book.meet_district_rows::<Metres>(first, book.district_row(4)?),
+        None,
+    )?;
+    check_eq(book.district(4), Ok(1))?;
+    check_eq(book.district(7), Err(Refusal::NoJunction))?;
+    check_eq(book.border(3), Some(5))?;
+    check_eq(book.border(4), None)
+}
