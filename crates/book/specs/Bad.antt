@@ -1,7 +1,7 @@
 -- What makes a word of a book bad, given the words before it. Assumes nothing.
 use mathlib.Core.Path.{_≡_}
 use mathlib.Core.Bool.{Bool, true, false, cond, not, _&&_, _||_}
-use mathlib.Core.List.{List, [], _∷_}
+use mathlib.Core.List.{List, [], _∷_, _++_}
 use Prim.Native.Nat.{ℕ, _+_, _-_, _*_, _/_, _%_, _<_, _≤_}
 use lib.Dec.{eqb, leb, ltb}
 use lib.ListN.{length, getD, take, drop}
@@ -22,10 +22,9 @@ among x (y ∷ ys) = eqb x y || among x ys
 
 -- Words 0 to 7, each by its place: the counts lie within their limits, and word 7 is the number of all words. (Words 0 and 1 are
 -- checked before this.)
-abbrev pub bad-count : Counts → ℕ → Bool
-bad-count c i =
-    getD
-    (false
+abbrev pub count-faults : Counts → List Bool
+count-faults c =
+    false
     ∷ false
     ∷ not (within 1 4096 (c .junctions))
     ∷ not (within 1 64 (c .districts))
@@ -33,7 +32,10 @@ bad-count c i =
     ∷ ltb (c .junctions * c .borders) (c .«border_entries»)
     ∷ ltb (c .junctions * c .junctions) (c .«district_entries»)
     ∷ not (eqb (c .words) (total c))
-    ∷ []) i false
+    ∷ []
+
+abbrev pub bad-count : Counts → ℕ → Bool
+bad-count c i = getD (count-faults c) i false
 
 -- In the sections, j counts from the section's first word.
 
@@ -112,17 +114,20 @@ pub record Part : Type 0 where
 abbrev pub part : Section → (ℕ → Bool) → Part
 part x b = record { lies = x; bad = b }
 
+-- the parts: the counts, the districts and the border order, and the offsets and entries of the rows of one kind
+abbrev pub count-parts : Counts → List Part
+count-parts c = part (section 0 8) (bad-count c) ∷ []
+
+abbrev pub place-parts : List ℕ → Counts → List Part
+place-parts ws c = part (places-at c) (bad-district ws c) ∷ part (order-at c) (bad-border ws c) ∷ []
+
+abbrev pub row-parts : Scale → List ℕ → Counts → Names → List Part
+row-parts s ws c names =
+    part (offsets-at c names) (bad-offset ws c names) ∷ part (entries-at c names) (bad-entry s ws c names) ∷ []
+
 -- all parts of a book, in order
 abbrev pub parts : Scale → List ℕ → Counts → List Part
-parts s ws c =
-    part (section 0 8) (bad-count c)
-    ∷ part (places-at c) (bad-district ws c)
-    ∷ part (order-at c) (bad-border ws c)
-    ∷ part (offsets-at c Ranks) (bad-offset ws c Ranks)
-    ∷ part (entries-at c Ranks) (bad-entry s ws c Ranks)
-    ∷ part (offsets-at c Hubs) (bad-offset ws c Hubs)
-    ∷ part (entries-at c Hubs) (bad-entry s ws c Hubs)
-    ∷ []
+parts s ws c = count-parts c ++ (place-parts ws c ++ (row-parts s ws c Ranks ++ row-parts s ws c Hubs))
 
 -- the place i lies in a part, and its word there is bad
 abbrev pub bad-in : List Part → ℕ → Bool

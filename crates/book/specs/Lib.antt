@@ -2,5 +2,11 @@ pub mod Layout
 pub mod Words
 pub mod Bad
 pub mod Ready
+pub mod InRow
+pub mod Found
 pub mod Opened
 pub mod Cases
+pub mod Written
+pub mod Joining
+pub mod Parts
+pub mod Told

@@ -1,8 +1,11 @@
 // The six sections of a book, each beginning where the one before it ends.
 ghost use Prim.Native.Nat.{_≤_};
+ghost use mathlib.Core.Path.{_≡_};
 ghost use Rattle.book.specs.Layout.{total, Is-section};
+ghost use Rattle.book.specs.Bad.{offsets-at, entries-at, entry-count};
 ghost use Rattle.book.specs.Layout.{places-at, order-at, border-offsets-at, border-entries-at, district-offsets-at, district-entries-at};
 use super::Counts;
+use super::Names;
 use super::Span;
 
 impl Counts {
@@ -62,5 +65,35 @@ impl Counts {
             self.district_entries.saturating_mul(2),
             self.words,
         )
+    }
+
+    // The offsets of the rows that name their hubs so.
+    pub fn offsets(&self, names: Names) -> Span
+        ensures { λ r. ⌜ Is-section (now (self .entry)) (λ c. offsets-at c names) r ⌝ }
+    {
+        match names {
+            Names::Ranks => self.border_offsets(),
+            Names::Hubs => self.district_offsets(),
+        }
+    }
+
+    // The entries of those rows.
+    pub fn entries(&self, names: Names) -> Span
+        ensures { λ r. ⌜ Is-section (now (self .entry)) (λ c. entries-at c names) r ⌝ }
+    {
+        match names {
+            Names::Ranks => self.border_entries(),
+            Names::Hubs => self.district_entries(),
+        }
+    }
+
+    // How many entries those rows have.
+    pub fn entry_count(&self, names: Names) -> u64
+        ensures { λ r. ⌜ r ≡ entry-count (now (self .entry)) names ⌝ }
+    {
+        match names {
+            Names::Ranks => self.border_entries,
+            Names::Hubs => self.district_entries,
+        }
     }
 }

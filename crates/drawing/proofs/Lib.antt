@@ -1,2 +1,3 @@
+pub mod Crossings
 pub mod Filled
 pub mod Numerals

@@ -1,3 +1,4 @@
 pub mod Refusals
 pub mod Outcomes
 pub mod Edits
+pub mod Borders

@@ -184,7 +184,7 @@ impl Rest {
         }
     }
 
-    fn check_junctions(&self, junctions: &[Junction]) -> Result<(), Refusal>
+    pub(crate) fn check_junctions(&self, junctions: &[Junction]) -> Result<(), Refusal>
         ensures { λ r. ⌜ r ≡ verdict (size-check (now (self .entry) .junctions) (length (now (junctions .entry))) ∷ []) ⌝ }
     {
         if (junctions.len() as u64) < self.junctions {
@@ -195,7 +195,7 @@ impl Rest {
         Ok(())
     }
 
-    fn check_roads(&self, roads: &[Road]) -> Result<(), Refusal>
+    pub(crate) fn check_roads(&self, roads: &[Road]) -> Result<(), Refusal>
         ensures { λ r. ⌜ r ≡ verdict (size-check (now (self .entry) .roads) (length (now (roads .entry))) ∷ []) ⌝ }
     {
         if (roads.len() as u64) < self.roads {

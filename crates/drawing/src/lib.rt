@@ -1,4 +1,5 @@
 // The network as it is edited: a drawing at rest, the tables that each call is lent, the edits, and every refusal.
+mod borders;
 mod edits;
 mod refusal;
 mod rest;
@@ -14,9 +15,7 @@ pub use refusal::RefusalPartialEq;
 pub use refusal::Table;
 pub use rest::Rest;
 pub use tables::Junction;
-pub use tables::JunctionDebug;
 pub use tables::JunctionPartialEq;
 pub use tables::Mark;
 pub use tables::Road;
-pub use tables::RoadDebug;
 pub use tables::RoadPartialEq;

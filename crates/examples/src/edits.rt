@@ -1,6 +1,5 @@
 // Edits that are refused, each of which leaves the tables as they were.
 use drawing::Junction;
-use drawing::JunctionDebug;
 use drawing::JunctionPartialEq;
 use drawing::Mark;
 use drawing::Refusal;
@@ -8,7 +7,6 @@ use drawing::RefusalDebug;
 use drawing::RefusalPartialEq;
 use drawing::Rest;
 use drawing::Road;
-use drawing::RoadDebug;
 use drawing::RoadPartialEq;
 use measure::Clearance;
 use measure::ClearanceMeasure;
