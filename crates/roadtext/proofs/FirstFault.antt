@@ -87,9 +87,9 @@ module _ (s : Scale) (room : Room) where
       ap (λ x. read-lines s room l x st) (a .in-order)
       ∙ past-faultless-lines l st (a .earlier) (a .faulty ∷ a .later) (a .earlier-have-none)
       ∙ ap (then-lines (read-lines s room (n + 1) (a .later)))
-        (line-by-its-checks n (a .faulty) here
-        ∙ ap (λ cs. at-line n (passed cs after)) (first .in-order)
-        ∙ ap (at-line n) (passed-at-a-failing (first .earlier) c (first .later) after (first .earlier-pass) (first .it-fails)))
+      (line-by-its-checks n (a .faulty) here
+      ∙ ap (λ cs. at-line n (passed cs after)) (first .in-order)
+      ∙ ap (at-line n) (passed-at-a-failing (first .earlier) c (first .later) after (first .earlier-pass) (first .it-fails)))
       ∙ ap Err (sym (fault-of-parts f n (c .field-number) (c .cause) (a .its-number) (first .its-field) (first .its-cause)))
 
   fault-here :
@@ -124,7 +124,7 @@ module _ (s : Scale) (room : Room) where
   fault-or-none l st (line ∷ ls) =
       ⊎-elim (λ r. inl (fault l (r .0) (r .1), fault-here l st line ls (r .0) (r .1) (r .2)))
       (λ h. ⊎-elim (λ r. inl (r .0, fault-later l st line ls (r .0) h (r .1))) (λ t. inr (h, t))
-        (fault-or-none (l + 1) (with-line st line) ls))
+      (fault-or-none (l + 1) (with-line st line) ls))
       (fails-or-passes (checks-of s room st line))
 
   pub past-all-lines :
@@ -157,13 +157,14 @@ module _ (s : Scale) (room : Room) where
     fault-or-faultless =
         ⊎-elim (λ long. inl (fault 0 0 too-long, inl (long, refl)))
         (λ short. ⊎-elim (λ r. inl (r .0, inr (short, inl (r .1))))
-          (λ none. ⊎-elim
-            (λ e. inl
-              ( fault (1 + length (lines text)) 1 letter-out-of-place
-              , inr (short, inr record { lines-have-none = none; awaited = e; the-fault = refl }) ))
-            (λ e. inr record { not-too-long = short; lines-have-none = none; nothing-awaited = e; what-is-read = refl })
-            (cases-bool (awaits (at-the-end .stage))))
-          (fault-or-none 1 nothing-read (lines text)))
+        (λ none. ⊎-elim
+        (λ e. inl (
+          fault (1 + length (lines text)) 1 letter-out-of-place,
+          inr (short, inr record { lines-have-none = none; awaited = e; the-fault = refl }),
+        ))
+        (λ e. inr record { not-too-long = short; lines-have-none = none; nothing-awaited = e; what-is-read = refl })
+        (cases-bool (awaits (at-the-end .stage))))
+        (fault-or-none 1 nothing-read (lines text)))
         (cases-lt 65536 (length text))
 
     first-where-refused : (f : Fault) → read-text s room text ≡ Err f → First-fault s room text f

@@ -25,12 +25,14 @@ module _ (s : Scale) (room : Room) (n : ℕ) (roads : List Arc) (moves asks : Li
       × Reads s room nothing-read (written-lines n roads moves asks) (reading stage n roads moves asks)
   all-is-read =
       let few = w .few-junctions in
-      let last = all-asks-are-read s room n few roads moves asks (w .each-ask) in
-      ( last .0, last .1
-      , line-first (head-adds s room n (2 * length roads) (w .some-junction, few) (w .enough-places) (omega arith) (omega arith))
-        (lines-first (arc-lines roads) (move-lines moves ++ ask-lines asks)
-          (roads-are-read s room n few roads [] (2 * length roads) refl (omega arith) (omega arith) (w .each-road))
-          (lines-first (move-lines moves) (ask-lines asks) (moves-are-read s room n few roads moves [] (w .each-move)) (last .2))) )
+      let last = all-asks-are-read s room n few roads moves asks (w .each-ask) in (
+        last .0,
+        last .1,
+        line-first (head-adds s room n (2 * length roads) (w .some-junction, few) (w .enough-places) (omega arith) (omega arith))
+            (lines-first (arc-lines roads) (move-lines moves ++ ask-lines asks)
+            (roads-are-read s room n few roads [] (2 * length roads) refl (omega arith) (omega arith) (w .each-road))
+            (lines-first (move-lines moves) (ask-lines asks) (moves-are-read s room n few roads moves [] (w .each-move)) (last .2))),
+      )
 
   is-read-back :
       (text : List ℕ) → length text ≤ 65536 → without-comments (lines text) ≡ written-lines n roads moves asks

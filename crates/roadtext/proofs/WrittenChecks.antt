@@ -52,20 +52,44 @@ module _ (f : List ℕ) (x : ℕ) (e : Writes f x) where
 pub head-passes :
     (places : ℕ) (f g : List ℕ) (n a : ℕ) → Writes f n → Writes g a → Junction-of 4096 n → n ≤ places → a % 2 ≡ 0
     → All-pass (p-checks places (head-fields f g))
-head-passes places f g n a p q few fits even =
-    (refl, (is-number f n p, (is-within f n p 1 4096 few,
-    (ap (λ y. ltb places y) (its-value f n p) ∙ le-ltb places n fits,
-    (is-number g a q,
-    (ap (λ y. not (eqb (y % 2) 0)) (its-value g a q) ∙ ap not (eq-eqb (a % 2) 0 even), (refl, tt)))))))
+head-passes places f g n a p q few fits even = (
+  refl,
+  (
+    is-number f n p,
+    (
+      is-within f n p 1 4096 few,
+      (
+        ap (λ y. ltb places y) (its-value f n p) ∙ le-ltb places n fits,
+        (
+          is-number g a q,
+          (ap (λ y. not (eqb (y % 2) 0)) (its-value g a q) ∙ ap not (eq-eqb (a % 2) 0 even), (refl, tt)),
+        ),
+      ),
+    ),
+  ),
+)
 
 module _ (f g h : List ℕ) (a : Arc) (p : Writes f (a .from)) (q : Writes g (a .to)) (r : Writes h (a .worth)) where
   pub arc-passes : (s : Scale) (n : ℕ) → Writable-road s n a → All-pass (a-checks s n (arc-fields f g h))
-  arc-passes s n road =
-      (is-number f (a .from) p, (is-within f (a .from) p 1 n (road .from-a-junction),
-      (is-number g (a .to) q, (is-within g (a .to) q 1 n (road .to-a-junction),
-      (ap₂ eqb (its-value f (a .from) p) (its-value g (a .to) q) ∙ ne-eqb (a .from) (a .to) (road .ends-differ),
-      (is-number h (a .worth) r,
-      (ap (λ y. not (s .lawful y)) (its-value h (a .worth) r) ∙ ap not (road .lawful-worth), (refl, tt))))))))
+  arc-passes s n road = (
+    is-number f (a .from) p,
+    (
+      is-within f (a .from) p 1 n (road .from-a-junction),
+      (
+        is-number g (a .to) q,
+        (
+          is-within g (a .to) q 1 n (road .to-a-junction),
+          (
+            ap₂ eqb (its-value f (a .from) p) (its-value g (a .to) q) ∙ ne-eqb (a .from) (a .to) (road .ends-differ),
+            (
+              is-number h (a .worth) r,
+              (ap (λ y. not (s .lawful y)) (its-value h (a .worth) r) ∙ ap not (road .lawful-worth), (refl, tt)),
+            ),
+          ),
+        ),
+      ),
+    ),
+  )
 
   pub arc-is-read : arc-in (arc-fields f g h) ≡ a
   arc-is-read =
@@ -92,15 +116,25 @@ turned-is-writable s n a road = record {
 
 module _ (letter : ℕ) (f g : List ℕ) (m : Two) (p : Writes f (m .left)) (q : Writes g (m .right)) where
   pub move-passes : (n : ℕ) → Junction-of n (m .left) → m .right < 64 → All-pass (d-checks n (two-fields letter f g))
-  move-passes n junction low =
-      (is-number f (m .left) p, (is-within f (m .left) p 1 n junction,
-      (is-number g (m .right) q,
-      (ap (λ y. not (ltb y 64)) (its-value g (m .right) q) ∙ ap not (lt-ltb (m .right) 64 low), (refl, tt)))))
+  move-passes n junction low = (
+    is-number f (m .left) p,
+    (
+      is-within f (m .left) p 1 n junction,
+      (
+        is-number g (m .right) q,
+        (ap (λ y. not (ltb y 64)) (its-value g (m .right) q) ∙ ap not (lt-ltb (m .right) 64 low), (refl, tt)),
+      ),
+    ),
+  )
 
   pub ask-passes : (n : ℕ) → Junction-of n (m .left) → Junction-of n (m .right) → All-pass (q-checks n (two-fields letter f g))
-  ask-passes n left right =
-      (is-number f (m .left) p, (is-within f (m .left) p 1 n left,
-      (is-number g (m .right) q, (is-within g (m .right) q 1 n right, (refl, tt)))))
+  ask-passes n left right = (
+    is-number f (m .left) p,
+    (
+      is-within f (m .left) p 1 n left,
+      (is-number g (m .right) q, (is-within g (m .right) q 1 n right, (refl, tt))),
+    ),
+  )
 
   pub two-is-read : two-in (two-fields letter f g) ≡ m
   two-is-read = ap₂ (λ y z. two y z) (its-value f (m .left) p) (its-value g (m .right) q)

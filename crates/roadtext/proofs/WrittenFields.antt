@@ -17,19 +17,19 @@ use Rattle.roadtext.proofs.WrittenNumbers.{decimals-lack}
 module _
     (byte : ℕ) (parts : List ℕ → List (List ℕ))
     (rule : (b : ℕ) (bs : List ℕ) → parts (b ∷ bs) ≡ cond (eqb b byte) ([] ∷ parts bs) (put-first b (parts bs)))
-    where
-  one-more : (b : ℕ) (bs p : List ℕ) (ps : List (List ℕ)) → (b ≡ byte → ⊥) → parts bs ≡ p ∷ ps → parts (b ∷ bs) ≡ (b ∷ p) ∷ ps
-  one-more b bs p ps h e =
-      rule b bs ∙ cond-false (eqb b byte) ([] ∷ parts bs) (put-first b (parts bs)) (ne-eqb b byte h) ∙ ap (put-first b) e
+  where
+    one-more : (b : ℕ) (bs p : List ℕ) (ps : List (List ℕ)) → (b ≡ byte → ⊥) → parts bs ≡ p ∷ ps → parts (b ∷ bs) ≡ (b ∷ p) ∷ ps
+    one-more b bs p ps h e =
+        rule b bs ∙ cond-false (eqb b byte) ([] ∷ parts bs) (put-first b (parts bs)) (ne-eqb b byte h) ∙ ap (put-first b) e
 
-  up-to-the-byte : (p rest : List ℕ) → Lacks byte p → parts (p ++ (byte ∷ rest)) ≡ p ∷ parts rest
-  up-to-the-byte [] rest t =
-      rule byte rest ∙ cond-true (eqb byte byte) ([] ∷ parts rest) (put-first byte (parts rest)) (eq-eqb byte byte refl)
-  up-to-the-byte (b ∷ p) rest (h, t) = one-more b (p ++ (byte ∷ rest)) p (parts rest) h (up-to-the-byte p rest t)
+    up-to-the-byte : (p rest : List ℕ) → Lacks byte p → parts (p ++ (byte ∷ rest)) ≡ p ∷ parts rest
+    up-to-the-byte [] rest t =
+        rule byte rest ∙ cond-true (eqb byte byte) ([] ∷ parts rest) (put-first byte (parts rest)) (eq-eqb byte byte refl)
+    up-to-the-byte (b ∷ p) rest (h, t) = one-more b (p ++ (byte ∷ rest)) p (parts rest) h (up-to-the-byte p rest t)
 
-  all-of-it : parts [] ≡ [] ∷ [] → (p : List ℕ) → Lacks byte p → parts p ≡ p ∷ []
-  all-of-it none [] t = none
-  all-of-it none (b ∷ p) (h, t) = one-more b p p [] h (all-of-it none p t)
+    all-of-it : parts [] ≡ [] ∷ [] → (p : List ℕ) → Lacks byte p → parts p ≡ p ∷ []
+    all-of-it none [] t = none
+    all-of-it none (b ∷ p) (h, t) = one-more b p p [] h (all-of-it none p t)
 
 pub fields-of-spaced : (f : List ℕ) (more : List (List ℕ)) → All (Lacks 32) (f ∷ more) → fields (spaced f more) ≡ f ∷ more
 fields-of-spaced f [] (h, t) = all-of-it 32 fields (λ b bs. refl) refl f h

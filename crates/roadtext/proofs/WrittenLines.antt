@@ -65,7 +65,7 @@ module _ (s : Scale) (room : Room) where
       let q = number-decimal a small in
       by-its-fields nothing-read (head-line n a) (head-fields (decimal n) (decimal a)) (reading (arcs-to-come a) n [] [] [])
       (fields-of-spaced (112 ∷ []) ((115 ∷ 112 ∷ []) ∷ decimal n ∷ decimal a ∷ [])
-        (head-line-lacks 32 (omega arith) n a (omega arith) small))
+      (head-line-lacks 32 (omega arith) n a (omega arith) small))
       (refl, head-passes (room .places) (decimal n) (decimal a) n a p q few fits even)
       (ap₂ (λ y z. reading (arcs-to-come z) y [] [] []) (its-value (decimal n) n p) (its-value (decimal a) a q))
 
@@ -120,12 +120,14 @@ module _ (s : Scale) (room : Room) where
           let fs = words-of-arc (turned a) in
           let full = leb 16384 (length roads) || leb (room .records) (length roads) in
           by-its-fields (at (Twin a k)) (line-of-arc (turned a)) fs (reading (arcs-to-come k) n (roads ++ (a ∷ [])) moves asks)
-          (fields-of-arc (turned a) back)
-          ( refl
-          , all-append (λ c. c .fails ≡ false) (a-checks s n fs) (check 1 no-twin (not (is-twin a (arc-in fs))) ∷ check 1 8 full ∷ [])
-            (checks-of-arc (turned a) back)
-            ( ap (λ y. not (is-twin a y)) (arc-of-line (turned a) back) ∙ ap not (turned-is-twin a)
-            , (room-for-a-road h j, tt) ) )
+          (fields-of-arc (turned a) back) (
+            refl,
+            all-append (λ c. c .fails ≡ false) (a-checks s n fs) (check 1 no-twin (not (is-twin a (arc-in fs))) ∷ check 1 8 full ∷ [])
+                (checks-of-arc (turned a) back) (
+                  ap (λ y. not (is-twin a y)) (arc-of-line (turned a) back) ∙ ap not (turned-is-twin a),
+                  (room-for-a-road h j, tt),
+                ),
+          )
           refl
 
       module _ (letter : ℕ) (other : letter ≡ 32 → ⊥) (m : Two) (left : m .left < 10 ^ 10) (right : m .right < 10 ^ 10) where
@@ -146,7 +148,7 @@ module _ (s : Scale) (room : Room) where
           by-its-fields (at Tail) (line-of-two 100 m) (words-of-two 100 m) (reading Tail n roads (moves ++ (m ∷ [])) asks)
           (fields-of-two 100 (λ e. omega arith) m left right)
           (move-passes 100 (decimal (m .left)) (decimal (m .right)) m
-            (number-decimal (m .left) left) (number-decimal (m .right) right) n h k)
+          (number-decimal (m .left) left) (number-decimal (m .right) right) n h k)
           (ap (λ y. reading Tail n roads (moves ++ (y ∷ [])) asks) (two-of-line 100 (λ e. omega arith) m left right))
 
       module _ (q : Two) (h : Junction-of n (q .left)) (k : Junction-of n (q .right)) where

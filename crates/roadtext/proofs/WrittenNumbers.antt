@@ -30,8 +30,8 @@ module _ (n : ℕ) (small : n < 10 ^ 10) where
   number-decimal =
       cond-true (within 1 10 (length (decimal n)) && all-digits (decimal n)) (Some (digits-after 0 (decimal n))) None
       (and-from _ _
-        (within-from 1 10 (length (decimal n)) (decimal-some n (omega arith)) (length-decimal-le 10 n (omega arith) small (omega arith)))
-        decimal-has-digits)
+      (within-from 1 10 (length (decimal n)) (decimal-some n (omega arith)) (length-decimal-le 10 n (omega arith) small (omega arith)))
+      decimal-has-digits)
       ∙ ap Some (value-decimal own n (omega arith))
 
 -- digits have no byte below 48, as a space or a line end

@@ -63,8 +63,8 @@ module _ (s : Scale) (room : Room) where
       let Kept : Bool → Type 0 = λ b. Reads s room st (kept b) after in
       ⊎-elim (λ e. line-first (comment-adds-nothing st line e) (past-comments ls st after (subst Kept e r)))
       (λ e. let k : Kept false = subst Kept e r in
-        line-first record { no-fault = k .no-fault .0; is-read = refl }
-        (past-comments ls (with-line st line) after record { no-fault = k .no-fault .1; is-read = k .is-read }))
+      line-first record { no-fault = k .no-fault .0; is-read = refl }
+      (past-comments ls (with-line st line) after record { no-fault = k .no-fault .1; is-read = k .is-read }))
       (cases-bool (is-comment (fields line)))
 
   -- the lines after the head, in a network of n junctions
@@ -81,9 +81,9 @@ module _ (s : Scale) (room : Room) where
         let end : List Arc → State = λ roads. reading Tail n roads [] [] in
         subst (λ stage. Reads s room (reading stage n done [] []) (arc-lines (a ∷ rest)) (end (done ++ (a ∷ rest)))) (sym some)
         (said-as (ap end (append-assoc done (a ∷ []) rest))
-          (line-first (arc-adds s room n few done [] [] a road k)
-            (line-first (twin-adds s room n few done [] [] a road (k - 2) (omega arith) (omega arith))
-              (roads-are-read rest (done ++ (a ∷ [])) (k - 2) (omega arith) (omega arith) (omega arith) t))))
+        (line-first (arc-adds s room n few done [] [] a road k)
+        (line-first (twin-adds s room n few done [] [] a road (k - 2) (omega arith) (omega arith))
+        (roads-are-read rest (done ++ (a ∷ [])) (k - 2) (omega arith) (omega arith) (omega arith) t))))
 
     module _ (roads : List Arc) where
       pub moves-are-read :
