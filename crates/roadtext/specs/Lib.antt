@@ -2,3 +2,4 @@ pub mod Text
 pub mod Lines
 pub mod Reading
 pub mod Read
+pub mod Steps

@@ -4,6 +4,7 @@ mod line;
 mod outcome;
 mod parts;
 mod reading;
+mod steps;
 
 pub use outcome::Reading;
 pub use outcome::Unread;
