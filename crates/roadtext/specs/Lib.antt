@@ -3,3 +3,4 @@ pub mod Lines
 pub mod Reading
 pub mod Read
 pub mod Steps
+pub mod Answer

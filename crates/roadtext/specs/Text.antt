@@ -1,7 +1,8 @@
 -- The lines of a text, the fields of a line, and the number that a field writes. Assumes nothing.
+use mathlib.Core.Path.{_≡_}
 use mathlib.Core.Bool.{Bool, true, false, cond, _&&_}
 use mathlib.Core.List.{List, [], _∷_}
-use Prim.Native.Nat.{ℕ, zero, suc, _+_, _-_, _*_}
+use Prim.Native.Nat.{ℕ, zero, suc, _+_, _-_, _*_, _<_}
 use lib.Dec.{eqb}
 use lib.ListN.{length}
 use Rattle.std.specs.declared.option.Option.{Option}
@@ -17,6 +18,16 @@ put-first b (p ∷ ps) = (b ∷ p) ∷ ps
 abbrev pub lines : List ℕ → List (List ℕ)
 lines [] = []
 lines (b ∷ bs) = cond (eqb b 10) ([] ∷ lines bs) (put-first b (lines bs))
+
+-- the place of the first such byte, or the length where there is none
+abbrev pub place-of : ℕ → List ℕ → ℕ
+place-of b [] = 0
+place-of b (x ∷ xs) = cond (eqb x b) 0 (suc (place-of b xs))
+
+-- the lines of a text are this first one and those of the rest, which is shorter
+pub record Cut-line (text first rest : List ℕ) : Type 0 where
+  pub lines-are : lines text ≡ first ∷ lines rest
+  pub shorter : length rest < length text
 
 -- the fields of a line: what single spaces part
 abbrev pub fields : List ℕ → List (List ℕ)

@@ -1,6 +1,8 @@
 // The fields of a line, and the numbers that they write.
 ghost use mathlib.Core.Path.{_≡_};
-ghost use Rattle.roadtext.specs.Text.{number as number-of, fields, field as field-of};
+ghost use Prim.Native.Nat.{_≤_};
+ghost use lib.ListN.{length};
+ghost use Rattle.roadtext.specs.Text.{place-of, number as number-of, fields, field as field-of};
 ghost use Rattle.std.specs.Options.{mapped};
 
 // The number that a field writes, if it has 1 to 10 digits and nothing else.
@@ -21,7 +23,10 @@ pub(crate) fn number(text: &[u8]) -> Option<u64>
 }
 
 // The place of the first such byte, or the length where there is none.
-fn find(text: &[u8], byte: u8) -> usize {
+pub(crate) fn find(text: &[u8], byte: u8) -> usize
+    ensures place { λ r. ⌜ r ≡ place-of byte (now (text .entry)) ⌝ }
+    ensures bound { λ r. ⌜ r ≤ length (now (text .entry)) ⌝ }
+{
     for (i, b) in text.iter().enumerate() {
         if *b == byte {
             return i;

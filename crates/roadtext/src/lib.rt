@@ -1,11 +1,14 @@
 // Road text: networks in the form of the Ninth DIMACS Challenge.
+mod answer;
 mod fields;
 mod line;
+mod lines;
 mod outcome;
 mod parts;
 mod reading;
 mod steps;
 
+pub use answer::answer_line;
 pub use outcome::Reading;
 pub use outcome::Unread;
 pub use parts::Arc;

@@ -2,6 +2,7 @@
 ghost use mathlib.Core.Path.{_≡_};
 ghost use Prim.Native.Nat.{_^_, _<_};
 ghost use mathlib.Core.List.{[], _∷_};
+ghost use lib.Dec.{eqb};
 ghost use Rattle.roadtext.specs.Text.{fields, letter-of};
 ghost use Rattle.roadtext.specs.Lines.{check, bad-field, no-number, number-at, junction-checks, end-check, p-checks, a-checks, d-checks, q-checks, passed};
 ghost use Rattle.roadtext.specs.Lines.{head-in, arc-in, two-in};
@@ -58,6 +59,16 @@ fn junction_at(line: &[u8], i: u64, junctions: u64) -> Result<u64, LineFault>
     Ok(n)
 }
 
+// The ends of an arc, in fields 2 and 3, are two junctions.
+fn check_ends(from: u64, to: u64) -> Result<(), LineFault>
+    ensures { λ r. ⌜ r ≡ passed (check 3 6 (eqb from to) ∷ []) tt ⌝ }
+{
+    if from == to {
+        return Err(LineFault { field: 3, cause: 6 });
+    }
+    Ok(())
+}
+
 // There is no field after number `i`.
 fn end_after(line: &[u8], i: u64) -> Result<(), LineFault>
     requires { ⌜ i < 2 ^ 32 ⌝ }
@@ -109,9 +120,7 @@ pub(crate) fn read_arc<M: Measure>(line: &[u8], junctions: u64) -> Result<Arc, L
 {
     let from = junction_at(line, 2, junctions)?;
     let to = junction_at(line, 3, junctions)?;
-    if from == to {
-        return Err(LineFault { field: 3, cause: 6 });
-    }
+    check_ends(from, to)?;
     let worth = number_at(line, 4)?;
     if !M::is_lawful(worth) {
         return Err(LineFault { field: 4, cause: 7 });
