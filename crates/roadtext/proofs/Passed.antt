@@ -7,6 +7,8 @@ use native.Mathlib.Omega.{arith}
 use Rattle.std.specs.declared.result.Result.{Result}
 use Rattle.std.specs.declared.result.Result.the-variants.{Ok, Err}
 use Rattle.std.specs.Results.{ErrBy}
+use Rattle.std.specs.Vec.{made}
+use Rattle.std.specs.shelf.Lists.{All}
 use Rattle.std.proofs.shelf.Results.{err-from-errBy}
 use Rattle.roadtext.specs.declared.parts.LineFault.{LineFault}
 use Rattle.roadtext.specs.Lines.{Check, check, passed}
@@ -62,3 +64,21 @@ check-fails n x b cs z e = sym (ap (λ v. passed (check n x v ∷ cs) z) e)
 
 pub check-passes : {A : Type 0} (n x : ℕ) (b : Bool) (z : A) → b ≡ false → Ok z ≡ passed (check n x b ∷ []) z
 check-passes n x b z e = sym (ap (λ v. passed (check n x v ∷ []) z) e)
+
+-- what is shown of the value by the checks that have passed
+pub passed-gives : {A : Type 0} (cs : List Check) (z : A) (P : A → Type 0) → (Ok z ≡ passed cs z → P z) → made (passed cs z) P
+passed-gives [] z P h = h refl
+passed-gives (c ∷ cs) z P h =
+    elim (c .fails)
+    as (λ b. (Ok z ≡ cond b (Err (record { field = c .field-number; cause = c .cause })) (passed cs z) → P z) → made (cond b (Err (record { field = c .field-number; cause = c .cause })) (passed cs z)) P)
+    [ true ↦ λ k. tt | false ↦ λ k. passed-gives cs z P k ]
+    h
+
+-- where a list of checks passes, each of them does
+pub each-passes : {A : Type 0} (cs : List Check) (z : A) → Ok z ≡ passed cs z → All (λ c. c .fails ≡ false) cs
+each-passes [] z h = tt
+each-passes (c ∷ cs) z h =
+    elim (c .fails)
+    as (λ b. Ok z ≡ cond b (Err (record { field = c .field-number; cause = c .cause })) (passed cs z) → (b ≡ false) × All (λ c. c .fails ≡ false) cs)
+    [ true ↦ λ e. absurd (let q : _≡_ {A = ℕ} 0 1 = cc in omega arith) | false ↦ λ e. (refl, each-passes cs z e) ]
+    h

@@ -1,19 +1,21 @@
 -- One line, seen by a reader that keeps only how far it has come, and what the line adds. Assumes nothing.
 use mathlib.Core.Path.{_≡_}
-use mathlib.Core.Bool.{not, _||_}
+use mathlib.Core.Bool.{true, false, not, _||_}
 use mathlib.Core.List.{List, [], _∷_, _++_}
 use Prim.Native.Nat.{ℕ, _+_, _-_}
-use lib.Dec.{leb}
+use lib.Dec.{eqb, leb, ltb}
 use lib.ListN.{length}
 use Rattle.std.specs.declared.result.Result.{Result}
 use Rattle.std.specs.declared.result.Result.the-variants.{Ok, Err}
+use Rattle.std.specs.Vec.{made}
 use Rattle.measure.specs.Scale.{Scale}
+use Rattle.drawing.specs.Edits.{within}
 use Rattle.roadtext.specs.declared.parts.Arc.{Arc}
 use Rattle.roadtext.specs.declared.parts.Head.{Head}
 use Rattle.roadtext.specs.declared.parts.LineFault.{LineFault}
 use Rattle.roadtext.specs.declared.parts.Two.{Two}
 use Rattle.roadtext.specs.declared.parts.Stage.{Stage}
-use Rattle.roadtext.specs.declared.parts.Stage.the-variants.{Twin, Tail, Asks}
+use Rattle.roadtext.specs.declared.parts.Stage.the-variants.{Head as HeadAwaited, Arc as ArcAwaited, Twin, Tail, Asks}
 use Rattle.roadtext.specs.declared.steps.Event.{Event}
 use Rattle.roadtext.specs.declared.steps.Event.the-variants.{Nothing, Road, Move, Ask}
 use Rattle.roadtext.specs.declared.steps.Progress.{Progress}
@@ -60,10 +62,45 @@ abbrev pub stepped-by : State → Result Step LineFault → Result State LineFau
 stepped-by st (Ok t) = Ok (stepped st t)
 stepped-by st (Err f) = Err f
 
+-- a drawing with so many junctions can be started in a table of so many entries
+pub record Startable (places n : ℕ) : Type 0 where
+  pub in-limits : within 1 4096 n ≡ true
+  pub in-table : ltb places n ≡ false
+
+-- after the `p` line, it can be
+abbrev pub Counted : Progress → Stage → Type 0
+Counted p HeadAwaited = Unit {0}
+Counted p (ArcAwaited k) = Startable (p .places) (p .junctions)
+Counted p (Twin a k) = Startable (p .places) (p .junctions)
+Counted p Tail = Startable (p .places) (p .junctions)
+Counted p Asks = Startable (p .places) (p .junctions)
+
+-- a road that can be added
+pub record Addable (s : Scale) (p : Progress) (a : Arc) : Type 0 where
+  pub from-within : within 1 (p .junctions) (a .from) ≡ true
+  pub to-within : within 1 (p .junctions) (a .to) ≡ true
+  pub apart : eqb (a .from) (a .to) ≡ false
+  pub worth-lawful : s .lawful (a .worth) ≡ true
+  pub room-left : leb 16384 (p .roads) || leb (p .records) (p .roads) ≡ false
+
+-- a junction that can be moved
+pub record Movable (p : Progress) (m : Two) : Type 0 where
+  pub junction-within : within 1 (p .junctions) (m .left) ≡ true
+  pub district-below : ltb (m .right) 64 ≡ true
+
+-- what an event adds can be added
+abbrev pub Drawable : Scale → Progress → Event → Type 0
+Drawable s p Nothing = Unit {0}
+Drawable s p (Road a) = Addable s p a
+Drawable s p (Move m) = Movable p m
+Drawable s p (Ask q) = Unit {0}
+
 -- The line's fields, where what has been read has come as far as p: the line's fault, or the step to what is read with it.
-abbrev pub Steps : Scale → List (List ℕ) → Progress → Result Step LineFault → Type 0
-Steps s fs p r =
-    (room : Room) (st : State) → progress-of room st ≡ p → (l : ℕ) → read-line s room l fs st ≡ at-line l (stepped-by st r)
+pub record Steps (s : Scale) (fs : List (List ℕ)) (p : Progress) (r : Result Step LineFault) : Type 0 where
+  pub read : (room : Room) (st : State) → progress-of room st ≡ p → (l : ℕ) → read-line s room l fs st ≡ at-line l (stepped-by st r)
+  pub keeps : (room : Room) (st : State) → progress-of room st ≡ p → made r (λ t. progress-of room (stepped st t) ≡ t .progress)
+  pub counts : Counted p (p .stage) → made r (λ t. Counted (t .progress) (t .progress .stage))
+  pub draws : made r (λ t. Drawable s p (t .event))
 
 -- further on: at this stage, with this event
 abbrev pub moved-to : Progress → Stage → Event → Step
