@@ -4,3 +4,4 @@ pub mod Reading
 pub mod Read
 pub mod Steps
 pub mod Answer
+pub mod Checked

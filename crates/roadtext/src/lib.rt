@@ -1,5 +1,6 @@
 // Road text: networks in the form of the Ninth DIMACS Challenge.
 mod answer;
+mod checking;
 mod fields;
 mod line;
 mod lines;
@@ -9,6 +10,7 @@ mod reading;
 mod steps;
 
 pub use answer::answer_line;
+pub use checking::check;
 pub use outcome::Reading;
 pub use outcome::Unread;
 pub use parts::Arc;
