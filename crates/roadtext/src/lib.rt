@@ -1,5 +1,6 @@
 // Road text: networks in the form of the Ninth DIMACS Challenge.
 mod answer;
+mod asks;
 mod checking;
 mod fields;
 mod line;

@@ -1,10 +1,8 @@
-use mathlib.Core.Path.{_≡_, refl, sym, _∙_, ap, subst}
+use mathlib.Core.Path.{refl, sym, subst}
 use native.Mathlib.Omega.{arith}
-use borrow.Author.Needs.{needs}
-use Rattle.roadtext.specs.Checked.{room-for}
 use Rattle.roadtext.specs.Reading.{nothing-read}
-use Rattle.roadtext.specs.Steps.{progress-of, stepped, Counted}
-use Rattle.roadtext.proofs.Midway.{Midway, midway-next, midway-fault, midway-end, ended-read, ended-counted}
+use Rattle.roadtext.specs.Steps.{stepped, Counted}
+use Rattle.roadtext.proofs.Midway.{midway-next}
 use Rattle.roadtext.proofs.checking.check.Needs as need
 
 pub loop-line-holds : need.loop-line-holds

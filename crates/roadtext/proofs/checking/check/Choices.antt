@@ -1,9 +1,8 @@
 use Prim.Native.Nat.{_+_, _≤_}
 use lib.ListN.{length}
 use Rattle.roadtext.specs.Checked.{room-for}
-use Rattle.roadtext.specs.Reading.{State, nothing-read, read-lines}
+use Rattle.roadtext.specs.Reading.{State}
 use Rattle.roadtext.specs.Steps.{Counted}
-use Rattle.roadtext.specs.Text.{lines}
 use Rattle.roadtext.proofs.Midway.{Midway}
 use Rattle.roadtext.proofs.checking.check.Given as given
 
@@ -11,7 +10,7 @@ use Rattle.roadtext.proofs.checking.check.Given as given
 abbrev pub Inv-loop-line : given.InvT-loop-line
 Inv-loop-line g l =
     (st : State)
-    × Midway (g .M·Measure .scale) (room-for (l .places) (l .records)) (read-lines (g .M·Measure .scale) (room-for (l .places) (l .records)) 1 (lines (l .text)) nothing-read) (l .number) (l .rest) st (l .progress)
+    × Midway (g .M·Measure .scale) (room-for (l .places) (l .records)) (l .text) (l .number) (l .rest) st (l .progress)
     × Counted (l .progress) (l .progress .stage)
     × (l .number + length (l .rest) ≤ 65537)
 
