@@ -15,15 +15,16 @@ use Rattle.roadtext.specs.declared.steps.Progress.{Progress}
 use Rattle.roadtext.specs.declared.steps.Step.{Step}
 use Rattle.roadtext.specs.Lines.{passed, d-checks, arc-in, two-in, number-at}
 use Rattle.roadtext.specs.Reading.{is-twin}
-use Rattle.roadtext.specs.Steps.{Addable, Movable, twin-checks}
+use Rattle.roadtext.specs.Steps.{Begun, Addable, Movable, twin-checks}
 use Rattle.roadtext.proofs.Passed.{each-passes}
 
 -- a move passes the checks of its `d` line
-pub move-movable : (fs : List (List ℕ)) (p : Progress) (t : Step) → Ok t ≡ passed (d-checks (p .junctions) fs) t → Movable p (two-in fs)
-move-movable fs p t o =
+pub move-movable : (fs : List (List ℕ)) (p : Progress) (t : Step) → Begun (p .stage) → Ok t ≡ passed (d-checks (p .junctions) fs) t → Movable p (two-in fs)
+move-movable fs p t b o =
     let all = each-passes (d-checks (p .junctions) fs) t o in
     record
-    { junction-within = not-false (within 1 (p .junctions) (number-at fs 2)) (all .1 .0)
+    { begun = b
+    ; junction-within = not-false (within 1 (p .junctions) (number-at fs 2)) (all .1 .0)
     ; district-below = not-false (ltb (number-at fs 3) 64) (all .1 .1 .1 .0)
     }
 
@@ -32,12 +33,13 @@ twin-ends : (a b : Arc) → is-twin a b ≡ true → (b .to ≡ a .from) × (b .
 twin-ends a b h = (grind (arith, tells), grind (arith, tells), grind (arith, tells))
 
 -- an arc passes the checks of its twin's line
-pub twin-addable : (s : Scale) (fs : List (List ℕ)) (p : Progress) (a : Arc) (t : Step) → Ok t ≡ passed (twin-checks s p fs a) t → Addable s p a
-twin-addable s fs p a t o =
+pub twin-addable : (s : Scale) (fs : List (List ℕ)) (p : Progress) (a : Arc) (t : Step) → Begun (p .stage) → Ok t ≡ passed (twin-checks s p fs a) t → Addable s p a
+twin-addable s fs p a t b o =
     let all = each-passes (twin-checks s p fs a) t o in
     let ends = twin-ends a (arc-in fs) (not-false (is-twin a (arc-in fs)) (all .1 .1 .1 .1 .1 .1 .1 .1 .1 .0)) in
     record
-    { from-within = sym (ap (within 1 (p .junctions)) (ends .0)) ∙ not-false (within 1 (p .junctions) (number-at fs 3)) (all .1 .1 .1 .1 .0)
+    { begun = b
+    ; from-within = sym (ap (within 1 (p .junctions)) (ends .0)) ∙ not-false (within 1 (p .junctions) (number-at fs 3)) (all .1 .1 .1 .1 .0)
     ; to-within = sym (ap (within 1 (p .junctions)) (ends .1)) ∙ not-false (within 1 (p .junctions) (number-at fs 2)) (all .1 .1 .0)
     ; apart = rw (← ends .0, ← ends .1) (apart-either-way (number-at fs 2) (number-at fs 3) (all .1 .1 .1 .1 .1 .0))
     ; worth-lawful = sym (ap (s .lawful) (ends .2)) ∙ not-false (s .lawful (number-at fs 4)) (all .1 .1 .1 .1 .1 .1 .1 .0)

@@ -20,7 +20,7 @@ use Rattle.roadtext.specs.declared.steps.Progress.{Progress}
 use Rattle.roadtext.specs.declared.steps.Step.{Step}
 use Rattle.roadtext.specs.Lines.{Check, passed, p-checks, a-checks, d-checks, q-checks, head-in, arc-in, two-in, number-at}
 use Rattle.roadtext.specs.Reading.{State, Room, at-line, read-line, line-checks, after-line, has-letter, letter-check, arcs-to-come}
-use Rattle.roadtext.specs.Steps.{Steps, progress-of, stepped, stepped-by, moved-to, head-step, arc-step, twin-checks, twin-step, Startable, Counted, Drawable}
+use Rattle.roadtext.specs.Steps.{Steps, progress-of, stepped, stepped-by, moved-to, head-step, arc-step, twin-checks, twin-step, Startable, Begun, Counted, Drawable}
 use Rattle.roadtext.proofs.Passed.{passed-gives, each-passes}
 use Rattle.roadtext.proofs.Allowed.{twin-addable, move-movable}
 
@@ -51,7 +51,7 @@ module _ (s : Scale) (fs : List (List ℕ)) (quiet : false ≡ has-letter fs 99)
       ((room : Room) (st : State) → passed (C (progress-of room st)) (stepped st (T (progress-of room st))) ≡ passed (line-checks s room st fs g) (after-line st fs g))
       → ((room : Room) (st : State) → progress-of room (stepped st (T (progress-of room st))) ≡ (T (progress-of room st)) .progress)
       → ((p : Progress) → Ok (T p) ≡ passed (C p) (T p) → Counted p g → Counted ((T p) .progress) ((T p) .progress .stage))
-      → ((p : Progress) → Ok (T p) ≡ passed (C p) (T p) → Drawable s p ((T p) .event))
+      → ((p : Progress) → p .stage ≡ g → Ok (T p) ≡ passed (C p) (T p) → Drawable s p ((T p) .event))
       → (p : Progress) (r : Result Step LineFault) → p .stage ≡ g → r ≡ passed (C p) (T p) → Steps s fs p r
   steps-by same kept counted drawn p r at e =
       record
@@ -66,7 +66,7 @@ module _ (s : Scale) (fs : List (List ℕ)) (quiet : false ≡ has-letter fs 99)
             over p r e (λ t. progress-of room (stepped st t) ≡ t .progress)
             (λ _. subst (λ q. progress-of room (stepped st (T q)) ≡ (T q) .progress) h (kept room st))
       ; counts = λ k. over p r e (λ t. Counted (t .progress) (t .progress .stage)) (λ o. counted p o (subst (Counted p) at k))
-      ; draws = over p r e (λ t. Drawable s p (t .event)) (drawn p)
+      ; draws = over p r e (λ t. Drawable s p (t .event)) (drawn p at)
       }
 
 module _ (s : Scale) (fs : List (List ℕ)) (quiet : false ≡ has-letter fs 99) (p : Progress) (r : Result Step LineFault) where
@@ -77,7 +77,7 @@ module _ (s : Scale) (fs : List (List ℕ)) (quiet : false ≡ has-letter fs 99)
         let all = each-passes (letter-check fs 112 ∷ p-checks (q .places) fs) (head-step q (head-in fs)) o in
         counted-arcs ((head-step q (head-in fs)) .progress) ((head-in fs) .arcs)
         (record { in-limits = not-false (within 1 4096 (number-at fs 3)) (all .1 .1 .1 .0); in-table = all .1 .1 .1 .1 .0 }))
-      (λ _ _. tt)
+      (λ _ _ _. tt)
       p
       r
 
@@ -85,7 +85,7 @@ module _ (s : Scale) (fs : List (List ℕ)) (quiet : false ≡ has-letter fs 99)
   arc-steps left =
       steps-by s fs quiet (ArcAwaited left) (λ q. letter-check fs 97 ∷ a-checks s (q .junctions) fs) (λ q. arc-step q left (arc-in fs)) (λ _ _. refl) (λ _ _. refl)
       (λ _ _ h. h)
-      (λ _ _. tt)
+      (λ _ _ _. tt)
       p
       r
 
@@ -94,7 +94,7 @@ module _ (s : Scale) (fs : List (List ℕ)) (quiet : false ≡ has-letter fs 99)
       steps-by s fs quiet (Twin a left) (λ q. twin-checks s q fs a) (λ q. twin-step q a left) (λ _ _. refl)
       (λ room st. ap (λ n. record { places = room .places; records = room .records; stage = arcs-to-come left; junctions = st .junctions; roads = n }) (length-append (st .roads) (a ∷ [])))
       (λ q _ h. counted-arcs ((twin-step q a left) .progress) left h)
-      (λ q o. twin-addable s fs q a (twin-step q a left) o)
+      (λ q at o. twin-addable s fs q a (twin-step q a left) (subst Begun (sym at) tt) o)
       p
       r
 
@@ -102,7 +102,7 @@ module _ (s : Scale) (fs : List (List ℕ)) (quiet : false ≡ has-letter fs 99)
   asks-step =
       steps-by s fs quiet Asks (λ q. letter-check fs 113 ∷ q-checks (q .junctions) fs) (λ q. moved-to q Asks (Ask (two-in fs))) (λ _ _. refl) (λ _ _. refl)
       (λ _ _ h. h)
-      (λ _ _. tt)
+      (λ _ _ _. tt)
       p
       r
 
@@ -120,7 +120,7 @@ module _ (s : Scale) (fs : List (List ℕ)) (quiet : false ≡ has-letter fs 99)
       (λ room st. tail-at room st false other)
       (λ _ _. refl)
       (λ _ _ h. h)
-      (λ _ _. tt)
+      (λ _ _ _. tt)
       p
       r
 
@@ -130,6 +130,6 @@ module _ (s : Scale) (fs : List (List ℕ)) (quiet : false ≡ has-letter fs 99)
       (λ room st. tail-at room st true so)
       (λ _ _. refl)
       (λ _ _ h. h)
-      (λ q o. move-movable fs q (moved-to q Tail (Move (two-in fs))) o)
+      (λ q at o. move-movable fs q (moved-to q Tail (Move (two-in fs))) (subst Begun (sym at) tt) o)
       p
       r

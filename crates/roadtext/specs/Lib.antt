@@ -5,3 +5,4 @@ pub mod Read
 pub mod Steps
 pub mod Answer
 pub mod Checked
+pub mod Drawn

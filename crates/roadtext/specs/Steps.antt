@@ -75,8 +75,17 @@ Counted p (Twin a k) = Startable (p .places) (p .junctions)
 Counted p Tail = Startable (p .places) (p .junctions)
 Counted p Asks = Startable (p .places) (p .junctions)
 
+-- the `p` line has been read
+abbrev pub Begun : Stage → Type 0
+Begun HeadAwaited = ⊥
+Begun (ArcAwaited k) = Unit {0}
+Begun (Twin a k) = Unit {0}
+Begun Tail = Unit {0}
+Begun Asks = Unit {0}
+
 -- a road that can be added
 pub record Addable (s : Scale) (p : Progress) (a : Arc) : Type 0 where
+  pub begun : Begun (p .stage)
   pub from-within : within 1 (p .junctions) (a .from) ≡ true
   pub to-within : within 1 (p .junctions) (a .to) ≡ true
   pub apart : eqb (a .from) (a .to) ≡ false
@@ -85,6 +94,7 @@ pub record Addable (s : Scale) (p : Progress) (a : Arc) : Type 0 where
 
 -- a junction that can be moved
 pub record Movable (p : Progress) (m : Two) : Type 0 where
+  pub begun : Begun (p .stage)
   pub junction-within : within 1 (p .junctions) (m .left) ≡ true
   pub district-below : ltb (m .right) 64 ≡ true
 

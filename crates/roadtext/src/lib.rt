@@ -2,6 +2,7 @@
 mod answer;
 mod asks;
 mod checking;
+mod draw;
 mod fields;
 mod line;
 mod lines;
