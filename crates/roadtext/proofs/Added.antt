@@ -28,7 +28,7 @@ use Rattle.roadtext.specs.Read.{Adds-all, Moves-all}
 use Rattle.roadtext.specs.Steps.{Begun, Addable, Movable, Drawable, with-road, with-move}
 
 -- a call that answers has done what it says
-ends-ok : {A : Type 0} (v : Result Unit Refusal) (a : A) (same : Type 0) (done : A → Type 0) → Ends v (Ok a) same done → done a
+pub ends-ok : {A : Type 0} (v : Result Unit Refusal) (a : A) (same : Type 0) (done : A → Type 0) → Ends v (Ok a) same done → done a
 ends-ok (Ok u) a same done h = h
 ends-ok (Err x) a same done h = absurd (let e = h .0 in let q : _≡_ {A = ℕ} 0 1 = cc in omega arith)
 
