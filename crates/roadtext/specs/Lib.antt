@@ -2,6 +2,9 @@ pub mod Text
 pub mod Lines
 pub mod Reading
 pub mod Read
+pub mod Steps
 pub mod Answer
 pub mod FirstFault
 pub mod Written
+pub mod Checked
+pub mod Drawn

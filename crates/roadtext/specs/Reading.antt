@@ -72,7 +72,7 @@ arcs-to-come k = cond (eqb k 0) Tail (ArcAwaited k)
 -- what has been read after a line without fault
 abbrev pub after-line : State → List (List ℕ) → Stage → State
 after-line st fs Head =
-    record { stage = arcs-to-come ((head-in fs) .arcs); junctions = (head-in fs) .junctions; roads = []; moves = []; asks = [] }
+    record { stage = arcs-to-come ((head-in fs) .arcs); junctions = (head-in fs) .junctions; roads = st .roads; moves = st .moves; asks = st .asks }
 after-line st fs (ArcAwaited k) =
     record { stage = Twin (arc-in fs) (k - 2); junctions = st .junctions; roads = st .roads; moves = st .moves; asks = st .asks }
 after-line st fs (Twin a k) =

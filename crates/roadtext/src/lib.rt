@@ -1,5 +1,8 @@
 // Road text: networks in the form of the Ninth DIMACS Challenge.
 mod answer;
+mod asks;
+mod checking;
+mod draw;
 mod fields;
 mod line;
 mod lines;
@@ -7,8 +10,10 @@ mod outcome;
 mod parts;
 mod reading;
 mod theorems;
+mod steps;
 
 pub use answer::answer_line;
+pub use checking::check;
 pub use outcome::Reading;
 pub use outcome::Unread;
 pub use parts::Arc;

@@ -1,7 +1,11 @@
 // Reading a text into a drawing.
 ghost use Rattle.roadtext.specs.Read.{Reads-the-text};
+use super::asks::asks_in;
+use super::checking::check;
+use super::draw::draw;
 use super::outcome::Reading;
 use super::outcome::Unread;
+use super::outcome::UnreadFromRefusal;
 use drawing::Junction;
 use drawing::Road;
 use measure::Measure;
@@ -17,5 +21,10 @@ pub fn read<M: Measure>(
 ) -> Result<Reading, Unread>
     ensures { λ r. ⌜ Reads-the-text (M·Measure .scale) (now (text .entry)) (now (junctions .entry)) (now (roads .entry)) r (now (junctions .exit)) (now (roads .exit)) ⌝ }
 {
-    Err(Unread::Memory)
+    let places = junctions.len() as u64;
+    let records = roads.len() as u64;
+    let count = check::<M>(text, places, records)?;
+    let asks = asks_in::<M>(heap, text, places, records)?;
+    let drawing = draw::<M>(text, count, junctions, roads)?;
+    Ok(Reading { drawing, asks })
 }
