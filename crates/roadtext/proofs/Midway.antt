@@ -28,9 +28,9 @@ module _ {s : Scale} {room : Room} {text : List ℕ} {l : ℕ} {rest : List ℕ}
 
   pub midway-next : {line more : List ℕ} (t : Step) → Cut-line rest line more → Steps s (fields line) p (Ok t) → Midway s room text (l + 1) more (stepped st t) (t .progress)
   midway-next {line} {more} t cut steps =
-      record
-      { came = steps .keeps room st (here .came)
-      ; left = sym (ap (then-lines (read-lines s room (l + 1) (lines more))) (steps .read room st (here .came) l)) ∙ first-line cut
+      record {
+        came = steps .keeps room st (here .came);
+        left = sym (ap (then-lines (read-lines s room (l + 1) (lines more))) (steps .read room st (here .came) l)) ∙ first-line cut;
       }
 
   pub midway-fault : {line more : List ℕ} (f : LineFault) → Cut-line rest line more → Steps s (fields line) p (Err f) → read-lines s room 1 (lines text) nothing-read ≡ Err (fault l (f .field) (f .cause))

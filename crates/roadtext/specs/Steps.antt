@@ -50,12 +50,12 @@ with-ask (Ask q) asks = asks ++ (q ∷ [])
 -- what has been read after a step
 abbrev pub stepped : State → Step → State
 stepped st t =
-    record
-    { stage = t .progress .stage
-    ; junctions = t .progress .junctions
-    ; roads = with-road (t .event) (st .roads)
-    ; moves = with-move (t .event) (st .moves)
-    ; asks = with-ask (t .event) (st .asks)
+    record {
+      stage = t .progress .stage;
+      junctions = t .progress .junctions;
+      roads = with-road (t .event) (st .roads);
+      moves = with-move (t .event) (st .moves);
+      asks = with-ask (t .event) (st .asks);
     }
 
 abbrev pub stepped-by : State → Result Step LineFault → Result State LineFault

@@ -9,8 +9,8 @@ mod lines;
 mod outcome;
 mod parts;
 mod reading;
-mod theorems;
 mod steps;
+mod theorems;
 
 pub use answer::answer_line;
 pub use checking::check;

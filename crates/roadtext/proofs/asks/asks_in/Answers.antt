@@ -11,8 +11,9 @@ loop-line-holds g c = (nothing-read, 1, record { came = sym (c .begin-progress .
 
 pub loop-line-again : need.loop-line-again
 loop-line-again g c =
-    let inv = c .loop-line .inv in
-    ( stepped (inv .0) (c .in-Ok .step)
-    , inv .1 + 1
-    , midway-next (inv .2) (c .in-Ok .step) (c .in-Some .ensures tt) (c .in-Ok .ensures tt)
-    , c .in-Continue-keep .ensures tt ∙ ap (with-ask (c .in-Ok .step .event)) (inv .3) )
+    let inv = c .loop-line .inv in (
+      stepped (inv .0) (c .in-Ok .step),
+      inv .1 + 1,
+      midway-next (inv .2) (c .in-Ok .step) (c .in-Some .ensures tt) (c .in-Ok .ensures tt),
+      c .in-Continue-keep .ensures tt ∙ ap (with-ask (c .in-Ok .step .event)) (inv .3),
+    )

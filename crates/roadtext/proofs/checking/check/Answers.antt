@@ -6,18 +6,20 @@ use Rattle.roadtext.proofs.Midway.{midway-next}
 use Rattle.roadtext.proofs.checking.check.Needs as need
 
 pub loop-line-holds : need.loop-line-holds
-loop-line-holds g c =
-    ( nothing-read
-    , record { came = sym (c .begin-progress .ensures); left = refl }
-    , subst (λ p. Counted p (p .stage)) (sym (c .begin-progress .ensures)) tt
-    , omega arith )
+loop-line-holds g c = (
+  nothing-read,
+  record { came = sym (c .begin-progress .ensures); left = refl },
+  subst (λ p. Counted p (p .stage)) (sym (c .begin-progress .ensures)) tt,
+  omega arith,
+)
 
 pub loop-line-again : need.loop-line-again
 loop-line-again g c =
     let inv = c .loop-line .inv in
     let cut = c .in-Some .ensures tt in
-    let steps = c .in-Ok .ensures tt in
-    ( stepped (inv .0) (c .in-Ok .step)
-    , midway-next (inv .1) (c .in-Ok .step) cut steps
-    , steps .counts (inv .2)
-    , omega (arith, inv .3, cut .shorter) )
+    let steps = c .in-Ok .ensures tt in (
+      stepped (inv .0) (c .in-Ok .step),
+      midway-next (inv .1) (c .in-Ok .step) cut steps,
+      steps .counts (inv .2),
+      omega (arith, inv .3, cut .shorter),
+    )
