@@ -9,3 +9,5 @@ mod limits;
 mod measures;
 #[cfg(test)]
 mod rules;
+#[cfg(test)]
+mod texts;

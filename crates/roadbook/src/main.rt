@@ -1,130 +1,99 @@
-// Draws a network of six junctions, edits it, and says what it did.
+// Reads a road text from standard input, and says what network it describes.
 use drawing::Junction;
 use drawing::Mark;
 use drawing::Refusal;
 use drawing::RefusalDisplay;
-use drawing::Rest;
 use drawing::Road;
 use measure::Metres;
 use measure::MetresMeasure;
+use roadtext::Reading;
+use roadtext::Unread;
+use roadtext::read;
+use std::alloc::Global;
 use std::error::AnyError;
 use std::io;
+use std::io::Read;
 
-// The roads of the network: two ends and a length in metres.
-const ROADS: [(u64, u64, u64); 6] = [
-    (1, 2, 700),
-    (2, 3, 900),
-    (3, 4, 200),
-    (1, 5, 100),
-    (4, 5, 150),
-    (5, 6, 400),
-];
+// The entries of each table.
+const ENTRIES: usize = 8_192;
 
-fn draw(junctions: &mut [Junction], roads: &mut [Road]) -> Result<Rest, Refusal> {
-    let mut drawing = Rest::start::<Metres>(6, 2, junctions)?;
-    for (first, second, metres) in ROADS {
-        drawing.add::<Metres>(roads, first, second, metres)?;
+// One byte more than a text may have: so much is ever held.
+const HELD: usize = 65_537;
+
+// Reads standard input up to its end, or until one byte more is held than a text may have.
+fn hold(rt: &LibcRuntime, text: &mut [u8]) -> io::Result<usize> {
+    let mut held: usize = 0;
+    for _ in 0..HELD {
+        if held >= text.len() {
+            return Ok(held);
+        }
+        let more = rt.stdin().read(&mut text[held..])?;
+        if more == 0 {
+            return Ok(held);
+        }
+        held += more;
     }
-    for junction in 4..=6 {
-        drawing.assign(junctions, junction, 1)?;
-    }
-    Ok(drawing)
+    Ok(held)
 }
 
-// Prints what became of an edit.
-fn report(rt: &impl Print, edit: &str, outcome: Result<(), Refusal>) -> io::Result<()> {
-    match outcome {
-        Ok(()) => println!(rt, "  {edit}: done"),
-        Err(refusal) => println!(rt, "  {edit}: refused {refusal}"),
+// How many districts have a junction.
+fn districts_in_use(junctions: &[Junction]) -> u32 {
+    let mut used: u64 = 0;
+    for junction in junctions {
+        if junction.district < 64 {
+            used |= 1 << junction.district;
+        }
     }
+    used.count_ones()
 }
 
-fn edit(
+// Prints what was read.
+fn state(
     rt: &impl Print,
-    drawing: &Rest,
-    junctions: &mut [Junction],
-    roads: &mut [Road],
-) -> io::Result<()> {
-    println!(rt, "edits")?;
-    report(
-        rt,
-        "set road 6 to 450",
-        drawing.set::<Metres>(roads, 6, 450),
-    )?;
-    report(rt, "close road 3", drawing.close(roads, 3))?;
-    report(rt, "close road 4", drawing.close(roads, 4))?;
-    report(rt, "reopen road 3", drawing.reopen(roads, 3))?;
-    report(
-        rt,
-        "set road 1 to 1000001",
-        drawing.set::<Metres>(roads, 1, 1_000_001),
-    )?;
-    report(rt, "close road 7", drawing.close(roads, 7))?;
-    report(
-        rt,
-        "assign junction 7 to district 1",
-        drawing.assign(junctions, 7, 1),
-    )
-}
-
-fn print_roads(rt: &impl Print, roads: &[Road]) -> io::Result<()> {
-    println!(rt, "roads")?;
-    for (i, road) in roads.iter().enumerate() {
-        let Road {
-            first,
-            second,
-            value,
-            mark,
-        } = *road;
-        let mark = match mark {
-            Mark::Open => "open",
-            Mark::Closed => "closed",
-        };
-        let number = i + 1;
-        println!(rt, "  {number}: {first}-{second} {value} {mark}")?;
+    reading: &Reading,
+    junctions: &[Junction],
+    roads: &[Road],
+) -> Result<(), AnyError> {
+    let n = reading.drawing.junctions();
+    let k = reading.drawing.roads();
+    let used = districts_in_use(&junctions[0..(n as usize).min(junctions.len())]);
+    let asks = reading.asks.len();
+    println!(rt, "junctions {n}")?;
+    println!(rt, "roads {k}")?;
+    println!(rt, "districts in use {used}")?;
+    match reading.drawing.count_borders(junctions, roads) {
+        Ok(borders) => println!(rt, "borders {borders}")?,
+        Err(refusal) => return refuse(rt, refusal),
     }
+    println!(rt, "asks that wait {asks}")?;
     Ok(())
 }
 
-fn print_junctions(rt: &impl Print, junctions: &[Junction]) -> io::Result<()> {
-    println!(rt, "junctions")?;
-    for (i, junction) in junctions.iter().enumerate() {
-        let district = junction.district;
-        let number = i + 1;
-        println!(rt, "  {number}: district {district}")?;
-    }
-    Ok(())
+// Prints a refusal, and nothing else; the program then ends with status 1.
+fn refuse(rt: &impl Print, refusal: Refusal) -> Result<(), AnyError> {
+    println!(rt, "refused {refusal}")?;
+    Err("refused".into())
 }
 
-fn run(rt: &impl Print) -> Result<(), AnyError> {
-    let mut junctions = [Junction { district: 0 }; 6];
+fn run(rt: &LibcRuntime, heap: Global) -> Result<(), AnyError> {
+    let mut text = vec![in heap; 0u8; HELD]?;
+    let held = hold(rt, &mut text)?;
+    text.truncate(held);
+    let mut junctions = vec![in heap; Junction { district: 0 }; ENTRIES]?;
     let unused = Road {
         first: 0,
         second: 0,
         value: 0,
         mark: Mark::Closed,
     };
-    let mut roads = [unused; 6];
-    let drawing = match draw(&mut junctions, &mut roads) {
-        Ok(drawing) => drawing,
-        Err(refusal) => {
-            println!(rt, "refused {refusal}")?;
-            return Err("refused".into());
-        }
-    };
-    let n = drawing.junctions();
-    let m = drawing.districts();
-    let k = drawing.roads();
-    println!(
-        rt,
-        "a drawing in metres: {n} junctions, {m} districts, {k} roads"
-    )?;
-    edit(rt, &drawing, &mut junctions, &mut roads)?;
-    print_roads(rt, &roads)?;
-    print_junctions(rt, &junctions)?;
-    Ok(())
+    let mut roads = vec![in heap; unused; ENTRIES]?;
+    match read::<Metres>(heap, &text, &mut junctions, &mut roads) {
+        Ok(reading) => state(rt, &reading, &junctions, &roads),
+        Err(Unread::Refused(refusal)) => refuse(rt, refusal),
+        Err(Unread::Memory) => Err("no memory".into()),
+    }
 }
 
 fn main(rt: LibcRuntime) -> Result<(), AnyError> {
-    run(&rt)
+    run(&rt, rt.alloc())
 }
