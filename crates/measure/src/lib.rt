@@ -37,11 +37,11 @@ pub trait Measure {
     fn is_lawful(word: u64) -> bool
         ensures { λ r. ⌜ r ≡ scale .lawful word ⌝ };
 
-    // Whether a is better than b. A word that is no value counts as none.
+    // Whether a is better than b, each taken for none if it is no value.
     fn better(a: u64, b: u64) -> bool
         ensures { λ r. ⌜ r ≡ scale .better (counts scale a) (counts scale b) ⌝ };
 
-    // The value of two walks, one after the other. A word that is no value counts as none.
+    // The value of two walks, one after the other, each taken for none if it is no value.
     fn join(a: u64, b: u64) -> u64
         ensures { λ r. ⌜ r ≡ scale .join (counts scale a) (counts scale b) ⌝ };
 

@@ -17,7 +17,7 @@ abbrev pub backwards : List Arc → List Arc
 backwards [] = []
 backwards (a ∷ w) = backwards w ++ (turned a ∷ [])
 
--- x is none, or the value of a walk from u to v
+-- x is none, or some walk that leads from u to v has it
 abbrev pub Reached : Scale → List Arc → ℕ → ℕ → ℕ → Type 0
 Reached s arcs u v x = (x ≡ s .none) ⊎ Walked s arcs u v x
 
