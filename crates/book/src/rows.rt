@@ -21,7 +21,7 @@ fn part(words: &[u64], span: Span) -> Result<&[u64], Refusal>
 
 impl Counts {
     // The entries from number `begin` to before number `end`, of the rows with these names.
-    fn stretch(&self, names: Names, begin: u64, end: u64) -> Span
+    pub(crate) fn stretch(&self, names: Names, begin: u64, end: u64) -> Span
         ensures { λ r. ⌜ Is-stretch (now (self .entry)) names begin end r ⌝ }
     {
         let entries = self.entries(names);

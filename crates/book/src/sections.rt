@@ -10,21 +10,21 @@ use super::Span;
 
 impl Counts {
     // The district of each junction.
-    pub fn places(&self) -> Span
+    pub(crate) fn places(&self) -> Span
         ensures { λ r. ⌜ Is-section (now (self .entry)) places-at r ⌝ }
     {
         Span::new(8, self.junctions, self.words)
     }
 
     // The border order.
-    pub fn order(&self) -> Span
+    pub(crate) fn order(&self) -> Span
         ensures { λ r. ⌜ Is-section (now (self .entry)) order-at r ⌝ }
     {
         Span::new(self.places().after(), self.borders, self.words)
     }
 
     // The offsets of the border rows.
-    pub fn border_offsets(&self) -> Span
+    pub(crate) fn border_offsets(&self) -> Span
         ensures { λ r. ⌜ Is-section (now (self .entry)) border-offsets-at r ⌝ }
     {
         Span::new(
@@ -35,7 +35,7 @@ impl Counts {
     }
 
     // The border entries.
-    pub fn border_entries(&self) -> Span
+    pub(crate) fn border_entries(&self) -> Span
         ensures { λ r. ⌜ Is-section (now (self .entry)) border-entries-at r ⌝ }
     {
         Span::new(
@@ -46,7 +46,7 @@ impl Counts {
     }
 
     // The offsets of the district rows.
-    pub fn district_offsets(&self) -> Span
+    pub(crate) fn district_offsets(&self) -> Span
         ensures { λ r. ⌜ Is-section (now (self .entry)) district-offsets-at r ⌝ }
     {
         Span::new(
@@ -57,7 +57,7 @@ impl Counts {
     }
 
     // The district entries.
-    pub fn district_entries(&self) -> Span
+    pub(crate) fn district_entries(&self) -> Span
         ensures { λ r. ⌜ Is-section (now (self .entry)) district-entries-at r ⌝ }
     {
         Span::new(
@@ -68,7 +68,7 @@ impl Counts {
     }
 
     // The offsets of the rows that name their hubs so.
-    pub fn offsets(&self, names: Names) -> Span
+    pub(crate) fn offsets(&self, names: Names) -> Span
         ensures { λ r. ⌜ Is-section (now (self .entry)) (λ c. offsets-at c names) r ⌝ }
     {
         match names {
@@ -78,7 +78,7 @@ impl Counts {
     }
 
     // The entries of those rows.
-    pub fn entries(&self, names: Names) -> Span
+    pub(crate) fn entries(&self, names: Names) -> Span
         ensures { λ r. ⌜ Is-section (now (self .entry)) (λ c. entries-at c names) r ⌝ }
     {
         match names {
@@ -88,7 +88,7 @@ impl Counts {
     }
 
     // How many entries those rows have.
-    pub fn entry_count(&self, names: Names) -> u64
+    pub(crate) fn entry_count(&self, names: Names) -> u64
         ensures { λ r. ⌜ r ≡ entry-count (now (self .entry)) names ⌝ }
     {
         match names {
