@@ -7,8 +7,8 @@ ghost use Rattle.book.specs.Bad.{offset, entry-word, entry-count, right-name, 
 ghost use Rattle.book.specs.InRow.{Lies, bad-name-in};
 ghost use Rattle.book.specs.Ready.{Ready, Good-offsets};
 use super::Counts;
-use super::Names;
 use super::Span;
+use super::names::Names;
 use measure::Measure;
 
 // Word number `place` of a section.

@@ -5,8 +5,8 @@ ghost use Rattle.book.specs.declared.names.Names.the-variants.{Ranks, Hubs};
 ghost use Rattle.measure.specs.Scale.{Scale};
 use super::Book;
 use super::Counts;
-use super::Names;
 use super::Span;
+use super::names::Names;
 use drawing::Refusal;
 
 // The part of the words that the span says, where they are all there.

@@ -5,8 +5,8 @@ ghost use Rattle.book.specs.Layout.{total, Is-section};
 ghost use Rattle.book.specs.Bad.{offsets-at, entries-at, entry-count};
 ghost use Rattle.book.specs.Layout.{places-at, order-at, border-offsets-at, border-entries-at, district-offsets-at, district-entries-at};
 use super::Counts;
-use super::Names;
 use super::Span;
+use super::names::Names;
 
 impl Counts {
     // The district of each junction.
