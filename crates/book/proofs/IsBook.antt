@@ -1,7 +1,7 @@
 -- What holds of words that are a book: their counts are within their limits, all words are there, and no offset is bad.
 -- Assumes nothing.
-use mathlib.Core.Path.{_≡_, refl, sym, _∙_, ap, subst}
-use mathlib.Core.Bool.{Bool, true, false, cond, not, _&&_, _||_}
+use mathlib.Core.Path.{_≡_, refl, subst}
+use mathlib.Core.Bool.{Bool, true, false, cond, not, _&&_}
 use mathlib.Core.List.{List, [], _∷_}
 use Prim.Native.Nat.{ℕ, _+_, _-_, _*_, _≤_, _<_}
 use native.Mathlib.Nat.{add-sub-cancel-left}
@@ -11,13 +11,13 @@ use lib.ListN.{length}
 use Rattle.std.specs.declared.result.Result.{Result}
 use Rattle.std.specs.declared.result.Result.the-variants.{Ok, Err}
 use Rattle.std.specs.shelf.Lists.{All}
-use Rattle.std.proofs.shelf.Tests.{and-parts, or-parts, not-false, both-ways, cases-bool, leb-true, ltb-false, eqb-true, le-leb, lt-ltb}
+use Rattle.std.proofs.shelf.Tests.{and-parts, or-parts, not-false, both-ways, leb-true, ltb-false, eqb-true, le-leb, lt-ltb}
 use Rattle.measure.specs.Scale.{Scale}
 use Rattle.drawing.specs.Edits.{within}
 use Rattle.drawing.specs.Outcomes.{Check, verdict}
 use Rattle.drawing.specs.declared.refusal.Refusal.{Refusal}
 use Rattle.book.specs.Layout.{word, counts-of, total}
-use Rattle.book.specs.Bad.{Part, bad-in, parts, bad-offset, bad-entry, entry-count}
+use Rattle.book.specs.Bad.{Part, bad-in, parts, bad-entry, entry-count}
 use Rattle.book.specs.Opened.{Is-book, open-checks}
 use Rattle.book.specs.Ready.{Ready, Good-offsets}
 use Rattle.book.specs.declared.names.Names.{Names}

@@ -1,8 +1,8 @@
 -- Two rows merged: what is left to merge from any turn on gives, with the best so far, what the whole rows give. Assumes nothing.
 use mathlib.Core.Path.{_≡_, refl, sym, _∙_, ap, subst}
-use mathlib.Core.Bool.{Bool, true, false, cond}
+use mathlib.Core.Bool.{true}
 use mathlib.Core.List.{List, [], _∷_}
-use mathlib.Core.Logic.{inl, inr, ⊎-elim}
+use mathlib.Core.Logic.{⊎-elim}
 use Prim.Native.Nat.{ℕ, _<_}
 use native.Mathlib.Omega.{arith}
 use lib.Dec.{eqb}
@@ -10,7 +10,7 @@ use lib.ListN.{drop}
 use Rattle.std.specs.declared.option.Option.{Option}
 use Rattle.std.specs.declared.option.Option.the-variants.{Some, None}
 use Rattle.std.specs.shelf.Lists.{All}
-use Rattle.std.proofs.shelf.Tests.{cases-bool, cond-true, cond-false, cond-both, eqb-true, eq-eqb, ne-eqb}
+use Rattle.std.proofs.shelf.Tests.{cases-bool, cond-true, cond-false, cond-both, eq-eqb, ne-eqb}
 use Rattle.std.proofs.shelf.Elements.{all-weaker}
 use Rattle.measure.specs.Scale.{Scale, Value, Laws, NoWorse, counts}
 use Rattle.network.specs.Labels.{Entry, entry, put-cell, value-at, offers, better-offer, best-offer, meet, Ascends}
@@ -18,7 +18,6 @@ use Rattle.network.specs.Theorems.{Proper}
 use Rattle.network.proofs.Order.{better-then-no-worse, better-is-no-worse, none-stays-none-behind}
 use Rattle.network.proofs.Meeting.{All-values, offered, offered-is-a-value}
 use Rattle.book.specs.Layout.{entries}
-use Rattle.book.specs.Words.{entry-words}
 use Rattle.book.specs.Opened.{Is-row, Joins-two-rows, as-pair}
 use Rattle.book.specs.Joining.{front, kept, kept-of}
 

@@ -1,25 +1,22 @@
 -- The part of a book's words that is the row of a junction. Assumes nothing.
-use mathlib.Core.Path.{_≡_, refl, sym, _∙_, ap, subst}
-use mathlib.Core.Bool.{Bool, true, false, cond, not, _&&_, _||_}
+use mathlib.Core.Path.{_≡_, _∙_, ap, subst}
+use mathlib.Core.Bool.{not}
 use mathlib.Core.List.{List, [], _∷_}
-use Prim.Native.Nat.{ℕ, _+_, _-_, _*_, _≤_, _<_}
+use Prim.Native.Nat.{ℕ, _-_, _*_, _≤_}
 use native.Mathlib.Omega.{arith}
-use lib.Dec.{eqb, leb, ltb}
 use lib.ListN.{length, take, drop}
 use denote.Ref.{RefT}
 use Rattle.std.specs.declared.result.Result.{Result}
 use Rattle.std.specs.declared.result.Result.the-variants.{Ok, Err}
-use Rattle.std.proofs.shelf.Tests.{and-from, or-parts, cond-false, le-leb, ne-eqb, ltb-false, not-from-true}
 use Rattle.measure.specs.Scale.{Scale}
 use Rattle.drawing.specs.Edits.{within}
 use Rattle.drawing.specs.Outcomes.{refuse, verdict, Ends}
 use Rattle.drawing.specs.declared.refusal.Refusal.{Refusal}
 use Rattle.drawing.specs.declared.refusal.Refusal.the-variants.{NoJunction}
 use Rattle.book.specs.Layout.{word, counts-of, total, Spans, words-in}
-use Rattle.book.specs.Bad.{offset, entry-count, bad-offset}
+use Rattle.book.specs.Bad.{offset}
 use Rattle.book.specs.Opened.{Is-book, Shows, row-words}
 use Rattle.book.specs.Parts.{Is-part, Is-offset, Is-stretch, stretch}
-use Rattle.book.specs.Ready.{Ready, Good-offsets}
 use Rattle.book.specs.declared.counts.Counts.{Counts}
 use Rattle.book.specs.declared.names.Names.{Names}
 use Rattle.book.specs.declared.opened.Book.{Book}

@@ -1,11 +1,11 @@
 -- A row that an opened book hands out is a row: its entries are whole, its hubs ascend, and its values are proper. Assumes nothing.
 use mathlib.Core.Path.{_≡_, refl, sym, _∙_, ap, subst}
-use mathlib.Core.Bool.{Bool, true, false, not, _&&_, _||_}
-use mathlib.Core.List.{List, [], _∷_}
+use mathlib.Core.Bool.{true, false, not, _&&_}
+use mathlib.Core.List.{List, _∷_}
 use Prim.Native.Nat.{ℕ, zero, suc, _+_, _-_, _*_, _≤_, _<_}
 use native.Mathlib.Omega.{arith}
-use lib.Dec.{eqb, leb, ltb}
-use lib.ListN.{length, take, drop, getD}
+use lib.Dec.{eqb, leb}
+use lib.ListN.{length, take, drop}
 use Rattle.std.specs.shelf.Lists.{All}
 use Rattle.std.proofs.shelf.Lists.{drop-more}
 use Rattle.std.proofs.shelf.Tests.{or-parts, not-false, ne-eqb, eqb-false, leb-false, ltb-true}
@@ -13,9 +13,9 @@ use Rattle.std.proofs.shelf.Elements.{all-weaker}
 use Rattle.measure.specs.Scale.{Scale}
 use Rattle.network.specs.Labels.{Entry, entry, Ascends}
 use Rattle.network.specs.Theorems.{Proper}
-use Rattle.book.specs.Layout.{word, counts-of, total, entries}
+use Rattle.book.specs.Layout.{word, counts-of, entries}
 use Rattle.book.specs.Words.{entry-words}
-use Rattle.book.specs.Bad.{offset, entries-at, entry-count, entry-word, right-name, begins-a-row, row-of, bad-name, bad-value, bad-entry}
+use Rattle.book.specs.Bad.{offset, entries-at, entry-count, entry-word, right-name, begins-a-row, row-of, bad-name, bad-value}
 use Rattle.book.specs.Opened.{Is-book, Is-row, row-words}
 use Rattle.book.specs.Ready.{Ready}
 use Rattle.book.specs.Told.{Rows-are-rows}

@@ -1,23 +1,20 @@
 -- What an opened book tells: the words of its sections. Assumes nothing.
-use mathlib.Core.Path.{_≡_, refl, sym, _∙_, ap, subst}
-use mathlib.Core.Bool.{true, cond, not}
+use mathlib.Core.Path.{_≡_, sym, _∙_, ap, subst}
+use mathlib.Core.Bool.{true, not}
 use mathlib.Core.List.{List, [], _∷_}
 use Prim.Native.Nat.{ℕ, _+_, _-_, _≤_, _<_}
 use native.Mathlib.Omega.{arith}
 use lib.Dec.{leb, ltb}
-use lib.ListN.{length, getD, take, drop}
-use Rattle.std.specs.declared.option.Option.{Option}
+use lib.ListN.{length, getD, drop}
 use Rattle.std.specs.declared.option.Option.the-variants.{Some, None}
-use Rattle.std.specs.declared.result.Result.{Result}
-use Rattle.std.specs.declared.result.Result.the-variants.{Ok, Err}
+use Rattle.std.specs.declared.result.Result.the-variants.{Ok}
 use Rattle.std.proofs.shelf.Lists.{getD-take, getD-drop}
 use Rattle.std.proofs.shelf.Tests.{and-from, cond-true, le-leb, lt-ltb}
 use Rattle.measure.specs.Scale.{Scale}
 use Rattle.drawing.specs.Edits.{within}
 use Rattle.drawing.specs.Outcomes.{refuse, verdict, Ends}
-use Rattle.drawing.specs.declared.refusal.Refusal.{Refusal}
 use Rattle.drawing.specs.declared.refusal.Refusal.the-variants.{NoJunction}
-use Rattle.book.specs.Layout.{word, counts-of, total, Section, Spans, Is-section, places-at, order-at, words-in}
+use Rattle.book.specs.Layout.{word, counts-of, Section, Spans, Is-section, places-at, order-at, words-in}
 use Rattle.book.specs.Opened.{Is-book, Shows}
 use Rattle.book.specs.Parts.{Is-word}
 use Rattle.book.specs.Told.{border-order, border-of}

@@ -1,9 +1,11 @@
 // The six sections of a book, each beginning where the one before it ends.
-ghost use Prim.Native.Nat.{_≤_};
+ghost use Prim.Native.Nat.{_+_, _<_, _≤_};
 ghost use mathlib.Core.Path.{_≡_};
-ghost use Rattle.book.specs.Layout.{total, Is-section};
-ghost use Rattle.book.specs.Bad.{offsets-at, entries-at, entry-count};
+ghost use lib.ListN.{length};
+ghost use Rattle.book.specs.Layout.{word, Is-section};
+ghost use Rattle.book.specs.Bad.{offsets-at, entries-at, entry-count, offset};
 ghost use Rattle.book.specs.Layout.{places-at, order-at, border-offsets-at, border-entries-at, district-offsets-at, district-entries-at};
+ghost use Rattle.book.specs.Ready.{Ready};
 use super::Counts;
 use super::Span;
 use super::names::Names;
@@ -96,4 +98,20 @@ impl Counts {
             Names::Hubs => self.district_entries,
         }
     }
+}
+
+// Word number `place` of a section.
+pub(crate) fn word_at(words: &[u64], section: Span, place: u64) -> u64
+    requires { ⌜ place < section .length ⌝ ∗ ⌜ section .total ≤ length (now words) ⌝ }
+    ensures { λ r. ⌜ r ≡ word (now (words .entry)) (section .first + place) ⌝ }
+{
+    words[(section.first + place) as usize]
+}
+
+// Offset number `place` of the rows that name their hubs so.
+pub(crate) fn offset_word(words: &[u64], counts: &Counts, names: Names, place: u64) -> u64
+    requires { ⌜ Ready (now words) (now counts) ⌝ ∗ ⌜ place ≤ now counts .junctions ⌝ }
+    ensures { λ r. ⌜ r ≡ offset (now (words .entry)) (now (counts .entry)) names place ⌝ }
+{
+    word_at(words, counts.offsets(names), place)
 }
