@@ -15,6 +15,7 @@ pub mod BookParts
 pub mod Borders
 pub mod FirstTrue
 pub mod Parts
+pub mod Searches
 pub mod SectionWords
 pub mod Merge
 pub mod IsBook
