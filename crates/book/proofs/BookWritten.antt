@@ -27,7 +27,8 @@ use Rattle.book.specs.Opened.{open-checks, row-words}
 use Rattle.book.specs.Written.{Bookable, Shows-row, Words-are-a-book}
 use Rattle.book.specs.declared.names.Names.{Names}
 use Rattle.book.specs.declared.names.Names.the-variants.{Ranks, Hubs}
-use Rattle.book.proofs.LaidEndToEnd.{word-of-section, entries-of-words}
+use Rattle.book.proofs.LaidEndToEnd.{entries-of-words}
+use Rattle.book.proofs.SectionWords.{word-of-section}
 use Rattle.book.proofs.RowsInWords.{Rows-lie, no-offset-is-bad, row-is-shown}
 use Rattle.book.proofs.GoodEntries.{Good-row, no-entry-is-bad}
 use Rattle.book.proofs.BookLimits.{order-has-junctions, order-is-no-longer, as-many-rows-as-junctions, row-by-number, border-entries-are-few, district-entries-are-few}

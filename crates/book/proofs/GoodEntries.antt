@@ -17,10 +17,10 @@ use Rattle.book.specs.Words.{offsets-from, all-entries, entry-words}
 use Rattle.book.specs.Bad.{among, entries-at, entry-word, begins-a-row, row-of, right-name, bad-value, bad-name, bad-entry}
 use Rattle.book.specs.declared.counts.Counts.{Counts}
 use Rattle.book.specs.declared.names.Names.{Names}
-use Rattle.book.proofs.LaidEndToEnd.{word-of-section}
+use Rattle.book.proofs.SectionWords.{word-of-section, entries-size}
 use Rattle.book.proofs.RisingOffsets.{count-at-most, getD-is-among}
 use Rattle.book.proofs.RowOffsets.{before, length-offsets, offset-is, before-more, offsets-never-fall, entry-in-row, Located, locate}
-use Rattle.book.proofs.RowsInWords.{Rows-lie, entries-size}
+use Rattle.book.proofs.RowsInWords.{Rows-lie}
 
 -- what is taken where there is no entry
 abbrev pub no-entry : Entry

@@ -16,7 +16,7 @@ use Rattle.book.specs.Layout.{word, places-at, order-at, words-in, total}
 use Rattle.book.specs.Bad.{among, count-faults, bad-count, bad-district, bad-border}
 use Rattle.book.specs.Ready.{Ready}
 use Rattle.book.specs.declared.counts.Counts.{Counts}
-use Rattle.book.proofs.LaidEndToEnd.{word-of-section}
+use Rattle.book.proofs.SectionWords.{word-of-section}
 
 pub is-within : (low high n : ℕ) → low ≤ n → n ≤ high → within low high n ≡ true
 is-within low high n a b = and-from (leb low n) (leb n high) (le-leb low n a) (le-leb n high b)
