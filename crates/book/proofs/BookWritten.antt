@@ -133,12 +133,12 @@ module _ (s : Scale) (laws : Laws s) (net : Network) (order : List ℕ) (bookabl
             (
               no-offset-is-bad ws (counts-of ws) Ranks (border-rows s net order) (laid .border-rows-lie),
               (
-                no-entry-is-bad s ws (counts-of ws) Ranks (border-rows s net order) (laid .border-rows-lie)
+                no-entry-is-bad s ws (counts-of ws) Ranks (border-rows s net order) (laid .border-rows-lie) counts-are-ready
                     (rows-are-good Ranks (border-row s net order) (λ v j. border-row-is-good v)),
                 (
                   no-offset-is-bad ws (counts-of ws) Hubs (district-rows s net) (laid .district-rows-lie),
                   (
-                    no-entry-is-bad s ws (counts-of ws) Hubs (district-rows s net) (laid .district-rows-lie)
+                    no-entry-is-bad s ws (counts-of ws) Hubs (district-rows s net) (laid .district-rows-lie) counts-are-ready
                         (rows-are-good Hubs (district-row s net) district-row-is-good),
                     tt,
                   ),

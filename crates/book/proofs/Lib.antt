@@ -1,7 +1,6 @@
 pub mod RowsOfEntries
 pub mod BadInRow
 pub mod LaidEndToEnd
-pub mod RisingOffsets
 pub mod RowOffsets
 pub mod RowsInWords
 pub mod GoodEntries
