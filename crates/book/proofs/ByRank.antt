@@ -3,11 +3,9 @@ use mathlib.Core.Path.{_≡_, _∙_, ap}
 use mathlib.Core.List.{List}
 use Prim.Native.Nat.{ℕ, _<_}
 use native.Mathlib.Omega.{arith}
-use lib.Dec.{ltb}
 use lib.ListN.{getD}
 use Rattle.std.specs.declared.option.Option.{Option}
 use Rattle.std.specs.declared.option.Option.the-variants.{Some, None}
-use Rattle.std.proofs.shelf.Tests.{cond-true, lt-ltb}
 use Rattle.measure.specs.Scale.{Scale, Laws}
 use Rattle.network.specs.Labels.{Entry, meet}
 use Rattle.network.proofs.Lists.{all-in}
@@ -16,11 +14,7 @@ use Rattle.book.specs.Layout.{word, entries}
 use Rattle.book.specs.Opened.{as-pair, as-pair-by-rank}
 use Rattle.book.specs.Told.{Is-border-row, border-order, border-of}
 use Rattle.book.proofs.Merge.{values}
-
--- the border of a rank that there is
-pub border-of-rank : (ws : List ℕ) (rank : ℕ) → rank < word ws 4 → border-of ws rank ≡ Some (getD (border-order ws) rank 0)
-border-of-rank ws rank l =
-    cond-true (ltb rank (word ws 4)) (Some (getD (border-order ws) rank 0)) None (lt-ltb rank (word ws 4) l)
+use Rattle.book.proofs.Telling.{border-of-rank}
 
 module _ (s : Scale) (laws : Laws s) (ws p q : List ℕ) (left : Is-border-row s ws p) (right : Is-border-row s ws q) (x rank : ℕ) where
   -- the offer's hub is the hub of an entry of the first row

@@ -1,18 +1,17 @@
 -- What holds of words that are a book: their counts are within their limits, all words are there, and no offset is bad.
 -- Assumes nothing.
 use mathlib.Core.Path.{_≡_, refl}
-use mathlib.Core.Bool.{Bool, true, false, cond, not}
+use mathlib.Core.Bool.{Bool, true, false, cond}
 use mathlib.Core.List.{List, [], _∷_}
-use Prim.Native.Nat.{ℕ, _*_, _≤_, _<_}
+use Prim.Native.Nat.{ℕ, _*_, _<_}
 use native.Mathlib.Omega.{arith}
-use lib.Dec.{eqb, leb}
+use lib.Dec.{eqb}
 use lib.ListN.{length}
 use Rattle.std.specs.declared.result.Result.{Result}
 use Rattle.std.specs.declared.result.Result.the-variants.{Ok, Err}
 use Rattle.std.specs.shelf.Lists.{All}
-use Rattle.std.proofs.shelf.Tests.{and-parts, not-false, leb-true, ltb-false, eqb-true}
+use Rattle.std.proofs.shelf.Tests.{not-false, ltb-false, eqb-true}
 use Rattle.measure.specs.Scale.{Scale}
-use Rattle.drawing.specs.Edits.{within}
 use Rattle.drawing.specs.Outcomes.{Check, verdict}
 use Rattle.drawing.specs.declared.refusal.Refusal.{Refusal}
 use Rattle.book.specs.Layout.{word, counts-of, total}
@@ -21,6 +20,7 @@ use Rattle.book.specs.Opened.{Is-book, open-checks}
 use Rattle.book.specs.Ready.{Ready, Good-offsets}
 use Rattle.book.specs.declared.names.Names.{Names}
 use Rattle.book.specs.declared.names.Names.the-variants.{Ranks, Hubs}
+use Rattle.book.proofs.Limits.{between}
 use Rattle.book.proofs.Parts.{Good-part, parts-are-good}
 
 -- where checks come to no refusal, the first does not fail, nor do the others
@@ -33,12 +33,6 @@ none-fails [] e = tt
 none-fails (c ∷ cs) e =
     let t = passed (c .fails) (c .refusal) (verdict cs) e in
     (t .0, none-fails cs (t .1))
-
--- a number that is not outside lies between the limits
-between : (low high n : ℕ) → not (within low high n) ≡ false → (low ≤ n) × (n ≤ high)
-between low high n e =
-    let t = and-parts (leb low n) (leb n high) (not-false (within low high n) e) in
-    (leb-true low n (t .0), leb-true n high (t .1))
 
 module _ (s : Scale) (ws : List ℕ) (book : Is-book s ws) where
   all-good : All Good-part (parts s ws (counts-of ws))

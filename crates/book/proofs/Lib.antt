@@ -1,6 +1,7 @@
 pub mod RowsOfEntries
 pub mod BadInRow
 pub mod LaidEndToEnd
+pub mod Limits
 pub mod RowOffsets
 pub mod RowsInWords
 pub mod GoodEntries

@@ -50,11 +50,15 @@ Merging s first second p q best = Is-row s first → Is-row s second → Left-to
 abbrev Above : ℕ → List Entry → Type 0
 Above h p = All (λ e. h < e .hub) p
 
+-- what is below the first hub of an ascending row is below all
+below-all : (h : ℕ) (e : Entry) (p : List Entry) → h < e .hub → Ascends (e ∷ p) → Above h (e ∷ p)
+below-all h e [] l a = (l, tt)
+below-all h e (f ∷ p) l (k, a) = (l, below-all h f p (omega arith) a)
+
 -- the first hub of an ascending row is below all others
 rest-is-above : (e : Entry) (p : List Entry) → Ascends (e ∷ p) → Above (e .hub) p
 rest-is-above e [] a = tt
-rest-is-above e (f ∷ p) (h, a) =
-    (h, all-weaker (λ x. f .hub < x .hub) (λ x. e .hub < x .hub) (λ x l. omega arith) p (rest-is-above f p a))
+rest-is-above e (f ∷ p) (h, a) = below-all (e .hub) f p h a
 
 rest-ascends : (e : Entry) (p : List Entry) → Ascends (e ∷ p) → Ascends p
 rest-ascends e [] a = tt
@@ -224,8 +228,7 @@ module _ (s : Scale) (laws : Laws s) (first second : List ℕ) (best : Option (�
   steps-left h x g y p q l i =
       let e : Entry = entry h x in
       let f : Entry = entry g y in
-      let above : Above h (f ∷ entries q) =
-      (l, all-weaker (λ z. g < z .hub) (λ z. h < z .hub) (λ z k. omega arith) (entries q) (rest-is-above f (entries q) (i .right-is-row .ascends))) in
+      let above : Above h (f ∷ entries q) = below-all h f (entries q) l (i .right-is-row .ascends) in
       record {
         left-is-row = rest-is-row s h x p (i .left-is-row);
         right-is-row = i .right-is-row;
@@ -240,8 +243,7 @@ module _ (s : Scale) (laws : Laws s) (first second : List ℕ) (best : Option (�
   steps-right h x g y p q l i =
       let e : Entry = entry h x in
       let f : Entry = entry g y in
-      let above : Above g (e ∷ entries p) =
-      (l, all-weaker (λ z. h < z .hub) (λ z. g < z .hub) (λ z k. omega arith) (entries p) (rest-is-above e (entries p) (i .left-is-row .ascends))) in
+      let above : Above g (e ∷ entries p) = below-all g e (entries p) l (i .left-is-row .ascends) in
       record {
         left-is-row = i .left-is-row;
         right-is-row = rest-is-row s g y q (i .right-is-row);

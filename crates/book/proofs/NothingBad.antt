@@ -1,13 +1,13 @@
 -- Counts within their limits, districts and borders as a network has them: none of their words is bad. Assumes nothing.
 use mathlib.Core.Path.{_≡_, refl, _∙_, ap, subst}
-use mathlib.Core.Bool.{true, false, not}
+use mathlib.Core.Bool.{false, not}
 use mathlib.Core.List.{List, [], _∷_}
 use Prim.Native.Nat.{ℕ, zero, suc, _+_, _*_, _≤_, _<_}
 use native.Mathlib.Omega.{arith}
-use lib.Dec.{eqb, leb}
+use lib.Dec.{eqb}
 use lib.ListN.{length, getD, take}
 use Rattle.std.specs.shelf.Lists.{All}
-use Rattle.std.proofs.shelf.Tests.{or-from, and-from, not-from-true, eq-eqb, ne-eqb, le-leb, lt-leb, le-ltb}
+use Rattle.std.proofs.shelf.Tests.{or-from, not-from-true, eq-eqb, ne-eqb, lt-leb, le-ltb}
 use Rattle.std.proofs.shelf.Elements.{all-getD}
 use Rattle.drawing.specs.Edits.{within}
 use Rattle.network.specs.Lists.{In, Distinct}
@@ -16,10 +16,8 @@ use Rattle.book.specs.Layout.{word, places-at, order-at, words-in, total}
 use Rattle.book.specs.Bad.{among, count-faults, bad-count, bad-district, bad-border}
 use Rattle.book.specs.Ready.{Ready}
 use Rattle.book.specs.declared.counts.Counts.{Counts}
+use Rattle.book.proofs.Limits.{is-within}
 use Rattle.book.proofs.SectionWords.{word-of-section}
-
-pub is-within : (low high n : ℕ) → low ≤ n → n ≤ high → within low high n ≡ true
-is-within low high n a b = and-from (leb low n) (leb n high) (le-leb low n a) (le-leb n high b)
 
 pub no-count-is-bad : (ws : List ℕ) (c : Counts) → Ready ws c → 1 ≤ c .districts → (i : ℕ) → i < 8 → bad-count c i ≡ false
 no-count-is-bad ws c r some i l =

@@ -23,7 +23,7 @@ use Rattle.book.specs.declared.opened.Book.{Book}
 use Rattle.book.specs.declared.span.Span.{Span}
 use Rattle.book.proofs.IsBook.{ready, good-offsets}
 use Rattle.book.proofs.RowsOfEntries.{next-offset, offset-within}
-use Rattle.book.proofs.Telling.{is-within}
+use Rattle.book.proofs.Limits.{is-within}
 
 -- what was handed out of words that are all there is the part that the span says
 part-is-there :
@@ -56,7 +56,7 @@ module _ (s : Scale) (names : Names) (v : ℕ) (r : Result (RefT (List ℕ)) Ref
       ∙ ap (λ n. take (2 * (end - begin)) (drop n ws)) (is-span .first)
       ∙ ap (λ n. words-in (stretch c names n end) ws) is-begin
       ∙ ap (λ n. words-in (stretch c names (offset ws c names (v - 1)) n) ws) is-end in
-      rw (is-within (word ws 2) v low high) (part-is-there ws (row-words ws names v) p r (omega arith) same h)
+      rw (is-within 1 (word ws 2) v low high) (part-is-there ws (row-words ws names v) p r (omega arith) same h)
 
   pub hands-out :
       (ws : List ℕ) (b : Book) → Is-book s ws → Shows ws b → 1 ≤ v → v ≤ b .counts .junctions
