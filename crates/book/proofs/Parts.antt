@@ -70,8 +70,7 @@ nothing-is-bad (p ∷ ps) (h, t) i =
 pub parts-are-good : (ps : List Part) → First-in ps None → All Good-part ps
 parts-are-good [] h = tt
 parts-are-good (p ∷ ps) h =
-    let here : (i : ℕ) → (bad-here p i ≡ false) × (bad-in ps i ≡ false) = λ i. or-parts (bad-here p i) (bad-in ps i) (h i) in
-    (
+    let here : (i : ℕ) → (bad-here p i ≡ false) × (bad-in ps i ≡ false) = λ i. or-parts (bad-here p i) (bad-in ps i) (h i) in (
       λ j l. ⊎-elim (λ t. absurd (both-ways (bad-here p (p .lies .first + j)) (here (p .lies .first + j) .0) (is-here p j l t)))
           (λ f. f) (cases-bool (p .bad j)),
       parts-are-good ps (λ i. here i .1),

@@ -45,6 +45,11 @@ border-of ws rank = cond (ltb rank (word ws 4)) (Some (getD (border-order ws) ra
 abbrev pub Tells-the-border : Scale → Book → ℕ → Option ℕ → Type 0
 Tells-the-border s b rank r = (ws : List ℕ) → Is-book s ws → Shows ws b → r ≡ border-of ws rank
 
+-- a value and the border where it is reached, if there is one
+abbrev pub with-border : ℕ → Option ℕ → Option (ℕ × ℕ)
+with-border x None = None
+with-border x (Some y) = Some (x, y)
+
 -- the words of a row whose names are ranks in the book's border order
 pub record Is-border-row (s : Scale) (ws p : List ℕ) : Type 0 where
   pub row : Is-row s p
