@@ -10,6 +10,7 @@ pub mod ByRank
 pub mod FirstTrue
 pub mod GoodEntries
 pub mod IsBook
+pub mod KeptOffers
 pub mod LaidEndToEnd
 pub mod Limits
 pub mod Merge
