@@ -9,7 +9,7 @@ use Rattle.network.specs.Labels.{Entry}
 use Rattle.network.specs.Networks.{Network}
 use Rattle.network.specs.Rows.{border-row, district-row}
 use Rattle.book.specs.Layout.{word, counts-of, places-at, order-at, words-in}
-use Rattle.book.specs.Words.{border-rows, district-rows, offsets-from, all-entries, entry-words, book-size, words}
+use Rattle.book.specs.Words.{border-rows, district-rows, offsets-from, all-entries, entry-words, count-words, book-size, words}
 use Rattle.book.specs.declared.names.Names.the-variants.{Ranks, Hubs}
 use Rattle.book.proofs.LaidEndToEnd.{length-entry-words}
 use Rattle.book.proofs.RowOffsets.{length-offsets}
@@ -36,16 +36,7 @@ pub record Laid-out (s : Scale) (net : Network) (order ws : List ℕ) : Type 0 w
 module _ (s : Scale) (net : Network) (long : length (net .places) ≡ net .junctions) (order : List ℕ) where
   -- the eight words of counts
   abbrev front : List ℕ
-  front =
-      1
-      ∷ s .tag
-      ∷ net .junctions
-      ∷ net .districts
-      ∷ length order
-      ∷ length (all-entries (border-rows s net order))
-      ∷ length (all-entries (district-rows s net))
-      ∷ book-size s net order
-      ∷ []
+  front = (1 ∷ s .tag ∷ []) ++ (count-words s net order ++ (book-size s net order ∷ []))
 
   abbrev border-offsets : List ℕ
   border-offsets = offsets-from 0 (border-rows s net order)

@@ -9,24 +9,12 @@ use Rattle.measure.specs.Scale.{Scale}
 use Rattle.book.specs.declared.counts.Counts.{Counts}
 use Rattle.book.specs.declared.names.Names.{Names}
 use Rattle.book.specs.declared.names.Names.the-variants.{Ranks, Hubs}
-use Rattle.book.specs.Layout.{after, section, places-at, order-at}
+use Rattle.book.specs.Layout.{section, places-at, order-at}
 use Rattle.book.specs.Bad.{Part, part, offsets-at, entries-at, entry-count, bad-count, count-faults, bad-district, bad-border, bad-offset, bad-entry, count-parts, place-parts, row-parts, parts, Finds}
 use Rattle.book.specs.Found.{first-true, First-in}
-use Rattle.book.proofs.Parts.{Chain, alone-none, alone-some, first-in-front, first-in-rest, pair-front, pair-back, pair-good}
+use Rattle.book.proofs.SectionWords.{offsets-size, entries-size, entries-follow}
+use Rattle.book.proofs.Parts.{Chain, nothing-is-bad, part-is-good, alone-some, first-in-front, first-in-rest, pair-front, pair-back, pair-good}
 use Rattle.book.proofs.FirstTrue.{first-true-found}
-
--- where the sections of the rows of one kind lie
-pub offsets-size : (c : Counts) (names : Names) → (offsets-at c names) .size ≡ c .junctions + 1
-offsets-size c Ranks = refl
-offsets-size c Hubs = refl
-
-pub entries-size : (c : Counts) (names : Names) → (entries-at c names) .size ≡ 2 * entry-count c names
-entries-size c Ranks = refl
-entries-size c Hubs = refl
-
-pub entries-follow : (c : Counts) (names : Names) → (entries-at c names) .first ≡ after (offsets-at c names)
-entries-follow c Ranks = refl
-entries-follow c Hubs = refl
 
 -- the first bad word of the rows of one kind
 module _ (s : Scale) (ws : List ℕ) (c : Counts) (names : Names) where
@@ -74,7 +62,7 @@ module _ (c : Counts) where
       (alone-some (part (section 0 8) (bad-count c)) i (counts-give (Some i) is))
 
   pub counts-good : None ≡ first-true 0 (count-faults c) → First-in (count-parts c) None
-  counts-good is = alone-none (part (section 0 8) (bad-count c)) (counts-give None is)
+  counts-good is = nothing-is-bad (count-parts c) (part-is-good (part (section 0 8) (bad-count c)) 8 refl (counts-give None is), tt)
 
 -- all parts
 module _ (s : Scale) (ws : List ℕ) (c : Counts) where

@@ -27,11 +27,14 @@ use Rattle.book.specs.Opened.{open-checks, row-words}
 use Rattle.book.specs.Written.{Bookable, Shows-row, Words-are-a-book}
 use Rattle.book.specs.declared.names.Names.{Names}
 use Rattle.book.specs.declared.names.Names.the-variants.{Ranks, Hubs}
-use Rattle.book.proofs.LaidEndToEnd.{word-of-section, entries-of-words}
+use Rattle.book.proofs.LaidEndToEnd.{entries-of-words}
+use Rattle.book.proofs.SectionWords.{word-of-section}
 use Rattle.book.proofs.RowsInWords.{Rows-lie, no-offset-is-bad, row-is-shown}
 use Rattle.book.proofs.GoodEntries.{Good-row, no-entry-is-bad}
 use Rattle.book.proofs.BookLimits.{order-has-junctions, order-is-no-longer, as-many-rows-as-junctions, row-by-number, border-entries-are-few, district-entries-are-few}
-use Rattle.book.proofs.NothingBad.{nothing-is-bad, is-within, no-count-is-bad, no-district-is-bad, no-border-is-bad}
+use Rattle.book.proofs.Parts.{nothing-is-bad}
+use Rattle.book.proofs.Limits.{is-within}
+use Rattle.book.proofs.NothingBad.{no-count-is-bad, no-district-is-bad, no-border-is-bad}
 use Rattle.book.proofs.BookLaidOut.{Laid-out, book-size-is, words-are-laid-out}
 
 module _ (s : Scale) (laws : Laws s) (net : Network) (order : List ℕ) (bookable : Bookable s net) (is-order : Border-order net order)
@@ -120,7 +123,7 @@ module _ (s : Scale) (laws : Laws s) (net : Network) (order : List ℕ) (bookabl
   none-is-bad =
       let sound = bookable .allowed .sound in
       nothing-is-bad (parts s ws (counts-of ws)) (
-        (λ j l. no-count-is-bad ws (counts-of ws) counts-are-ready (omega (arith, bookable .some-districts, laid .districts-are)) j),
+        no-count-is-bad ws (counts-of ws) counts-are-ready (omega (arith, bookable .some-districts, laid .districts-are)),
         (
           no-district-is-bad ws (counts-of ws) (net .places) (laid .places-lie) (sound .every-junction-has-a-district ∙ sym (laid .junctions-are))
               (subst (λ m. All (λ d. d < m) (net .places)) (sym (laid .districts-are)) (sound .districts-are-below-their-number)),
@@ -131,12 +134,12 @@ module _ (s : Scale) (laws : Laws s) (net : Network) (order : List ℕ) (bookabl
             (
               no-offset-is-bad ws (counts-of ws) Ranks (border-rows s net order) (laid .border-rows-lie),
               (
-                no-entry-is-bad s ws (counts-of ws) Ranks (border-rows s net order) (laid .border-rows-lie)
+                no-entry-is-bad s ws (counts-of ws) Ranks (border-rows s net order) (laid .border-rows-lie) counts-are-ready
                     (rows-are-good Ranks (border-row s net order) (λ v j. border-row-is-good v)),
                 (
                   no-offset-is-bad ws (counts-of ws) Hubs (district-rows s net) (laid .district-rows-lie),
                   (
-                    no-entry-is-bad s ws (counts-of ws) Hubs (district-rows s net) (laid .district-rows-lie)
+                    no-entry-is-bad s ws (counts-of ws) Hubs (district-rows s net) (laid .district-rows-lie) counts-are-ready
                         (rows-are-good Hubs (district-row s net) district-row-is-good),
                     tt,
                   ),

@@ -5,16 +5,16 @@ use mathlib.Core.List.{List, [], _∷_, _++_}
 use mathlib.Core.Logic.{⊎-elim, _≢_}
 use Prim.Native.Nat.{ℕ, _+_, _<_, _≤_}
 use native.Mathlib.Omega.{arith}
-use lib.Dec.{eqb, leb}
+use lib.Dec.{eqb}
 use lib.ListN.{length, getD, set, take, replicate}
 use Rattle.std.proofs.shelf.Lists.{getD-replicate, length-replicate, length-set, getD-set-same, getD-set-other, take-more}
-use Rattle.std.proofs.shelf.Tests.{cases-eq, eq-eqb, ne-eqb, or-parts, not-false, and-parts, leb-true, cases-bool}
-use Rattle.drawing.specs.Edits.{within}
+use Rattle.std.proofs.shelf.Tests.{cases-eq, eq-eqb, ne-eqb, or-parts, cases-bool}
 use Rattle.book.specs.declared.counts.Counts.{Counts}
 use Rattle.book.specs.Layout.{word, words-in, order-at, after}
 use Rattle.book.specs.Bad.{among, bad-border}
 use Rattle.book.specs.Found.{Marks}
 use Rattle.book.specs.Ready.{Ready}
+use Rattle.book.proofs.Limits.{between}
 use Rattle.book.proofs.SectionWords.{section-length, section-word}
 
 -- one element further
@@ -45,10 +45,9 @@ border-marked ws c ready seen j x inside is good m =
     let fits : after (order-at c) ≤ length ws = omega (arith, ready .words-are-counted, ready .words-are-there) in
     let longer : j < length order = rw (section-length (order-at c) ws fits) inside in
     let border = word ws ((order-at c) .first + j) in
-    let lies : within 1 (c .junctions) border ≡ true =
-    not-false (within 1 (c .junctions) border) (or-parts _ (among border (take j order)) good .0)
+    let below : border ≤ c .junctions =
+    between 1 (c .junctions) border (or-parts _ (among border (take j order)) good .0) .1
     in
-    let below = leb-true border (c .junctions) (and-parts (leb 1 border) (leb border (c .junctions)) lies .1) in
     let small : x < 4097 = omega arith in
     let more : take (j + 1) order ≡ take j order ++ x ∷ [] =
     take-more order j 0 longer ∙ ap (λ y. take j order ++ y ∷ []) (section-word (order-at c) ws j inside ∙ sym is)

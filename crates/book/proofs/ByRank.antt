@@ -1,28 +1,20 @@
 -- Two border rows joined, with the hub's rank turned into the border that has it. Assumes nothing.
-use mathlib.Core.Path.{_≡_, refl, sym, _∙_, ap, subst}
-use mathlib.Core.Bool.{true, cond}
-use mathlib.Core.List.{List, [], _∷_}
+use mathlib.Core.Path.{_≡_, _∙_, ap}
+use mathlib.Core.List.{List}
 use Prim.Native.Nat.{ℕ, _<_}
 use native.Mathlib.Omega.{arith}
-use lib.Dec.{ltb}
 use lib.ListN.{getD}
 use Rattle.std.specs.declared.option.Option.{Option}
 use Rattle.std.specs.declared.option.Option.the-variants.{Some, None}
-use Rattle.std.specs.shelf.Lists.{All}
-use Rattle.std.proofs.shelf.Tests.{cond-true, lt-ltb}
 use Rattle.measure.specs.Scale.{Scale, Laws}
 use Rattle.network.specs.Labels.{Entry, meet}
 use Rattle.network.proofs.Lists.{all-in}
 use Rattle.network.proofs.Meeting.{Meets, meets}
 use Rattle.book.specs.Layout.{word, entries}
 use Rattle.book.specs.Opened.{as-pair, as-pair-by-rank}
-use Rattle.book.specs.Told.{Is-border-row, border-order, border-of}
+use Rattle.book.specs.Told.{Is-border-row, border-order, border-of, with-border}
 use Rattle.book.proofs.Merge.{values}
-
--- the border of a rank that there is
-pub border-of-rank : (ws : List ℕ) (rank : ℕ) → rank < word ws 4 → border-of ws rank ≡ Some (getD (border-order ws) rank 0)
-border-of-rank ws rank l =
-    cond-true (ltb rank (word ws 4)) (Some (getD (border-order ws) rank 0)) None (lt-ltb rank (word ws 4) l)
+use Rattle.book.proofs.Telling.{border-of-rank}
 
 module _ (s : Scale) (laws : Laws s) (ws p q : List ℕ) (left : Is-border-row s ws p) (right : Is-border-row s ws q) (x rank : ℕ) where
   -- the offer's hub is the hub of an entry of the first row
@@ -38,23 +30,15 @@ module _ (s : Scale) (laws : Laws s) (ws p q : List ℕ) (left : Is-border-row s
       rank-is-below (meet s (entries p) (entries q))
       (meets s laws (entries p) (entries q) (values s (entries p) (left .row .proper)) (values s (entries q) (right .row .proper)))
 
-  pub has-a-border : Some (x, rank) ≡ as-pair (meet s (entries p) (entries q)) → None ≡ border-of ws rank → ⊥
-  has-a-border e none =
-      let b = border-of-rank ws rank (found-below e) in
-      let z : _≡_ {A = ℕ} 0 1 = cc in
-      omega arith
-
-  by-its-rank : (m : Option Entry) (y : ℕ) → y ≡ getD (border-order ws) rank 0 → Some (x, rank) ≡ as-pair m
-      → Some (x, y) ≡ as-pair-by-rank (border-order ws) m
-  by-its-rank None y b e = absurd (let z : _≡_ {A = ℕ} 0 1 = cc in omega arith)
-  by-its-rank (Some o) y b e =
+  -- the offer with the border of its rank
+  by-its-rank : (m : Option Entry) → Some (x, rank) ≡ as-pair m → Some (x, getD (border-order ws) rank 0) ≡ as-pair-by-rank (border-order ws) m
+  by-its-rank None e = absurd (let z : _≡_ {A = ℕ} 0 1 = cc in omega arith)
+  by-its-rank (Some o) e =
       let same : _≡_ {A = ℕ × ℕ} (x, rank) (o .worth, o .hub) = cc in
-      ap (λ z. Some (x, z)) b ∙ ap (λ t. Some (t .0, getD (border-order ws) (t .1) 0)) same
+      ap (λ t. Some (t .0, getD (border-order ws) (t .1) 0)) same
 
   pub gives-the-border :
-      (y : ℕ) → Some (x, rank) ≡ as-pair (meet s (entries p) (entries q)) → Some y ≡ border-of ws rank
-      → Some (x, y) ≡ as-pair-by-rank (border-order ws) (meet s (entries p) (entries q))
-  gives-the-border y e b =
-      let k = border-of-rank ws rank (found-below e) in
-      let is-border : y ≡ getD (border-order ws) rank 0 = cc in
-      by-its-rank (meet s (entries p) (entries q)) y is-border e
+      (border : Option ℕ) → Some (x, rank) ≡ as-pair (meet s (entries p) (entries q)) → border ≡ border-of ws rank
+      → with-border x border ≡ as-pair-by-rank (border-order ws) (meet s (entries p) (entries q))
+  gives-the-border border e b =
+      ap (with-border x) (b ∙ border-of-rank ws rank (found-below e)) ∙ by-its-rank (meet s (entries p) (entries q)) e

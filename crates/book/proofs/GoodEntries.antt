@@ -7,20 +7,21 @@ use Prim.Native.Nat.{ℕ, zero, suc, _+_, _-_, _*_, _/_, _%_, _<_}
 use native.Mathlib.Omega.{arith}
 use lib.Dec.{eqb, leb}
 use lib.ListN.{length, getD}
-use Rattle.std.specs.shelf.Lists.{All, kept-by}
-use Rattle.std.proofs.shelf.Tests.{cases-eq, cond-both, or-from, and-left, and-right, not-from-true, eqb-false, ne-eqb, lt-leb}
+use Rattle.std.specs.shelf.Lists.{All}
+use Rattle.std.proofs.shelf.Tests.{cases-eq, cond-both, or-from, and-left, and-right, not-from-true, eqb-false, eq-eqb, ne-eqb, lt-leb}
 use Rattle.std.proofs.shelf.Elements.{all-getD}
 use Rattle.measure.specs.Scale.{Scale}
 use Rattle.network.specs.Labels.{Entry, entry, Ascends}
 use Rattle.network.specs.Theorems.{Proper}
-use Rattle.book.specs.Words.{offsets-from, all-entries, entry-words}
-use Rattle.book.specs.Bad.{among, entries-at, entry-word, begins-a-row, row-of, right-name, bad-value, bad-name, bad-entry}
+use Rattle.book.specs.Words.{all-entries, entry-words}
+use Rattle.book.specs.Ready.{Ready, Good-offsets}
+use Rattle.book.specs.Bad.{offset, entries-at, entry-word, begins-a-row, row-of, right-name, bad-value, bad-name, bad-entry}
 use Rattle.book.specs.declared.counts.Counts.{Counts}
 use Rattle.book.specs.declared.names.Names.{Names}
-use Rattle.book.proofs.LaidEndToEnd.{word-of-section}
-use Rattle.book.proofs.RisingOffsets.{count-at-most, getD-is-among}
-use Rattle.book.proofs.RowOffsets.{before, length-offsets, offset-is, before-more, offsets-never-fall, entry-in-row, Located, locate}
-use Rattle.book.proofs.RowsInWords.{Rows-lie, entries-size}
+use Rattle.book.proofs.SectionWords.{word-of-section, offsets-size, entries-size}
+use Rattle.book.proofs.RowsOfEntries.{row-of-an-entry, begins-at-the-offset}
+use Rattle.book.proofs.RowOffsets.{before, before-more, entry-in-row, Located, locate}
+use Rattle.book.proofs.RowsInWords.{Rows-lie, offset-here, no-offset-is-bad}
 
 -- what is taken where there is no entry
 abbrev pub no-entry : Entry
@@ -60,16 +61,33 @@ pub proper-is-not-bad : (s : Scale) (x : ℕ) → Proper s x → bad-value s x �
 proper-is-not-bad s x p = or-from (not (s .value x)) (eqb x (s .none)) (not-from-true (s .value x) (p .0)) (ne-eqb x (s .none) (p .1))
 
 module _ (s : Scale) (ws : List ℕ) (c : Counts) (names : Names) (rows : List (List Entry)) (lie : Rows-lie ws c names rows)
-    (good : (i : ℕ) → i < length rows → Good-row s ws c names (suc i) (getD rows i [])) where
-  -- the row of an entry is the one where it lies
-  row-of-is : (e : ℕ) (at : Located rows e) → row-of ws c names e ≡ suc (at .row)
-  row-of-is e at =
-      let os : List ℕ = offsets-from 0 rows in
-      let here : getD os (at .row) 0 ≡ before rows (at .row) = offset-is rows (at .row) (omega arith) in
-      let next : getD os (suc (at .row)) 0 ≡ before rows (suc (at .row)) = offset-is rows (suc (at .row)) (omega arith) in
-      let more : before rows (suc (at .row)) ≡ before rows (at .row) + length (getD rows (at .row) []) = before-more rows (at .row) (omega arith) in
-      ap (λ l. length (kept-by (λ o. leb o e) l)) (lie .offsets-lie)
-      ∙ count-at-most os (at .row) e (offsets-never-fall rows) (omega (arith, length-offsets 0 rows)) (omega arith) (omega arith)
+    (ready : Ready ws c) (good : (i : ℕ) → i < length rows → Good-row s ws c names (suc i) (getD rows i [])) where
+  offsets-are-good : Good-offsets ws c names
+  offsets-are-good j l = no-offset-is-bad ws c names rows lie j (omega (arith, offsets-size c names))
+
+  -- an entry is in the row where it lies, and begins it if it is the first there
+  module _ (e : ℕ) (at : Located rows e) where
+    row-begins : offset ws c names (suc (at .row) - 1) ≡ before rows (at .row)
+    row-begins =
+        let same : suc (at .row) - 1 ≡ at .row = omega arith in
+        ap (offset ws c names) same ∙ offset-here ws c names rows lie (at .row) (omega arith)
+
+    row-ends : e < offset ws c names (suc (at .row))
+    row-ends =
+        let next = offset-here ws c names rows lie (suc (at .row)) (omega arith) in
+        let more = before-more rows (at .row) (omega arith) in
+        omega (arith, at .is, at .place-is-there)
+
+    row-of-is : row-of ws c names e ≡ suc (at .row)
+    row-of-is =
+        row-of-an-entry ws c names ready offsets-are-good (suc (at .row)) e (omega arith) (omega (arith, lie .as-many-rows))
+        (omega (arith, row-begins, at .is)) row-ends
+
+    begins-the-row : at .place ≡ 0 → begins-a-row ws c names e ≡ true
+    begins-the-row z =
+        begins-at-the-offset ws c names ready offsets-are-good (suc (at .row)) e (omega arith) (omega (arith, lie .as-many-rows))
+        (omega (arith, row-begins, at .is)) row-ends
+        ∙ eq-eqb e (offset ws c names (suc (at .row) - 1)) (omega (arith, row-begins, at .is))
 
   -- the name and the value of an entry, by its place in its row
   name-is : (e row place : ℕ) → row < length rows → place < length (getD rows row []) → e ≡ before rows row + place
@@ -96,12 +114,7 @@ module _ (s : Scale) (ws : List ℕ) (c : Counts) (names : Names) (rows : List (
       let starts : Bool = begins-a-row ws c names e in
       let falls : Bool = leb (entry-word ws c names (2 * e)) (entry-word ws c names (2 * (e - 1))) in
       let at-the-start : at .place ≡ 0 → (not starts && falls) ≡ false = λ z.
-      let is-offset : e ≡ getD (offsets-from 0 rows) (at .row) 0 = omega (arith, offset-is rows (at .row) (omega arith), at .is) in
-      and-left (not starts) falls
-      (not-from-true starts
-      (ap (among e) (lie .offsets-lie)
-      ∙ ap (λ n. among n (offsets-from 0 rows)) is-offset
-      ∙ getD-is-among (offsets-from 0 rows) (at .row) (omega (arith, length-offsets 0 rows)))) in
+      and-left (not starts) falls (not-from-true starts (begins-the-row e at z)) in
       let further-on : (at .place ≡ 0 → ⊥) → (not starts && falls) ≡ false = λ nz.
       let p : ℕ = at .place - 1 in
       let again : suc p ≡ at .place = omega arith in

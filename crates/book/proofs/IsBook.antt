@@ -1,51 +1,27 @@
 -- What holds of words that are a book: their counts are within their limits, all words are there, and no offset is bad.
 -- Assumes nothing.
-use mathlib.Core.Path.{_≡_, refl, sym, _∙_, ap, subst}
-use mathlib.Core.Bool.{Bool, true, false, cond, not, _&&_, _||_}
+use mathlib.Core.Path.{_≡_, refl}
+use mathlib.Core.Bool.{Bool, true, false, cond}
 use mathlib.Core.List.{List, [], _∷_}
-use Prim.Native.Nat.{ℕ, _+_, _-_, _*_, _≤_, _<_}
-use native.Mathlib.Nat.{add-sub-cancel-left}
+use Prim.Native.Nat.{ℕ, _*_, _<_}
 use native.Mathlib.Omega.{arith}
-use lib.Dec.{eqb, leb, ltb}
+use lib.Dec.{eqb}
 use lib.ListN.{length}
 use Rattle.std.specs.declared.result.Result.{Result}
 use Rattle.std.specs.declared.result.Result.the-variants.{Ok, Err}
 use Rattle.std.specs.shelf.Lists.{All}
-use Rattle.std.proofs.shelf.Tests.{and-parts, or-parts, not-false, both-ways, cases-bool, leb-true, ltb-false, eqb-true, le-leb, lt-ltb}
+use Rattle.std.proofs.shelf.Tests.{not-false, ltb-false, eqb-true}
 use Rattle.measure.specs.Scale.{Scale}
-use Rattle.drawing.specs.Edits.{within}
 use Rattle.drawing.specs.Outcomes.{Check, verdict}
 use Rattle.drawing.specs.declared.refusal.Refusal.{Refusal}
 use Rattle.book.specs.Layout.{word, counts-of, total}
-use Rattle.book.specs.Bad.{Part, bad-in, parts, bad-offset, bad-entry, entry-count}
+use Rattle.book.specs.Bad.{parts, bad-entry, entry-count}
 use Rattle.book.specs.Opened.{Is-book, open-checks}
 use Rattle.book.specs.Ready.{Ready, Good-offsets}
 use Rattle.book.specs.declared.names.Names.{Names}
 use Rattle.book.specs.declared.names.Names.the-variants.{Ranks, Hubs}
-
--- no word of a part is bad
-abbrev pub Good-part : Part → Type 0
-Good-part p = (j : ℕ) → j < p .lies .size → p .bad j ≡ false
-
--- where the first two of three tests hold, and all three do not, the last fails
-last-fails : (x y z : Bool) → x ≡ true → y ≡ true → (x && (y && z)) ≡ false → z ≡ false
-last-fails true true z ex ey e = e
-last-fails true false z ex ey e = absurd (both-ways false refl ey)
-last-fails false y z ex ey e = absurd (both-ways false refl ex)
-
--- where no place is bad, no part has a bad word
-pub parts-are-good : (ps : List Part) → ((i : ℕ) → bad-in ps i ≡ false) → All Good-part ps
-parts-are-good [] h = tt
-parts-are-good (p ∷ ps) h =
-    let first = p .lies .first in
-    let size = p .lies .size in
-    let test : ℕ → Bool = λ i. leb first i && (ltb i (first + size) && p .bad (i - first)) in
-    let here : (i : ℕ) → (test i ≡ false) × (bad-in ps i ≡ false) = λ i. or-parts (test i) (bad-in ps i) (h i) in
-    let good : Good-part p = λ j l.
-    subst (λ k. p .bad k ≡ false) (add-sub-cancel-left first j)
-    (last-fails (leb first (first + j)) (ltb (first + j) (first + size)) (p .bad (first + j - first))
-    (le-leb first (first + j) (omega arith)) (lt-ltb (first + j) (first + size) (omega arith)) (here (first + j) .0)) in
-    (good, parts-are-good ps (λ i. here i .1))
+use Rattle.book.proofs.Limits.{between}
+use Rattle.book.proofs.Parts.{Good-part, parts-are-good}
 
 -- where checks come to no refusal, the first does not fail, nor do the others
 passed : (b : Bool) (x : Refusal) (r : Result Unit Refusal) → cond b (Err x) r ≡ Ok tt → (b ≡ false) × (r ≡ Ok tt)
@@ -57,12 +33,6 @@ none-fails [] e = tt
 none-fails (c ∷ cs) e =
     let t = passed (c .fails) (c .refusal) (verdict cs) e in
     (t .0, none-fails cs (t .1))
-
--- a number that is not outside lies between the limits
-between : (low high n : ℕ) → not (within low high n) ≡ false → (low ≤ n) × (n ≤ high)
-between low high n e =
-    let t = and-parts (leb low n) (leb n high) (not-false (within low high n) e) in
-    (leb-true low n (t .0), leb-true n high (t .1))
 
 module _ (s : Scale) (ws : List ℕ) (book : Is-book s ws) where
   all-good : All Good-part (parts s ws (counts-of ws))

@@ -1,64 +1,27 @@
 -- Counts within their limits, districts and borders as a network has them: none of their words is bad. Assumes nothing.
 use mathlib.Core.Path.{_≡_, refl, _∙_, ap, subst}
-use mathlib.Core.Bool.{Bool, true, false, not, _&&_}
+use mathlib.Core.Bool.{false, not}
 use mathlib.Core.List.{List, [], _∷_}
-use mathlib.Core.Logic.{⊎-elim}
-use Prim.Native.Nat.{ℕ, zero, suc, _+_, _-_, _*_, _≤_, _<_}
+use Prim.Native.Nat.{ℕ, zero, suc, _+_, _*_, _≤_, _<_}
 use native.Mathlib.Omega.{arith}
-use lib.Dec.{eqb, leb, ltb}
+use lib.Dec.{eqb}
 use lib.ListN.{length, getD, take}
 use Rattle.std.specs.shelf.Lists.{All}
-use Rattle.std.proofs.shelf.Tests.{cases-bool, or-from, and-from, and-left, and-right, not-from-true, eq-eqb, ne-eqb, le-leb, lt-leb, le-ltb, leb-true, ltb-true}
+use Rattle.std.proofs.shelf.Tests.{or-from, not-from-true, eq-eqb, ne-eqb, lt-leb, le-ltb}
 use Rattle.std.proofs.shelf.Elements.{all-getD}
 use Rattle.drawing.specs.Edits.{within}
 use Rattle.network.specs.Lists.{In, Distinct}
 use Rattle.network.proofs.Lists.{getD-in}
 use Rattle.book.specs.Layout.{word, places-at, order-at, words-in, total}
-use Rattle.book.specs.Bad.{among, bad-count, bad-district, bad-border, Part, bad-in}
+use Rattle.book.specs.Bad.{among, count-faults, bad-count, bad-district, bad-border}
 use Rattle.book.specs.Ready.{Ready}
 use Rattle.book.specs.declared.counts.Counts.{Counts}
-use Rattle.book.proofs.LaidEndToEnd.{word-of-section}
+use Rattle.book.proofs.Limits.{is-within}
+use Rattle.book.proofs.SectionWords.{word-of-section}
 
--- no word of the part is bad
-abbrev pub Good-part : Part → Type 0
-Good-part p = (j : ℕ) → j < p .lies .size → p .bad j ≡ false
-
--- where no part has a bad word, no place is bad
-pub nothing-is-bad : (ps : List Part) → All Good-part ps → (i : ℕ) → bad-in ps i ≡ false
-nothing-is-bad [] h i = refl
-nothing-is-bad (p ∷ ps) (h, t) i =
-    let from : ℕ = p .lies .first in
-    let to : ℕ = p .lies .first + p .lies .size in
-    let here : Bool = p .bad (i - from) in
-    let inside : leb from i ≡ true → ltb i to ≡ true → here ≡ false =
-    λ a b. h (i - from) (omega (arith, leb-true from i a, ltb-true i to b)) in
-    or-from (leb from i && (ltb i to && here)) (bad-in ps i)
-    (⊎-elim
-    (λ a. and-right (leb from i) (ltb i to && here)
-    (⊎-elim (λ b. and-right (ltb i to) here (inside a b)) (and-left (ltb i to) here) (cases-bool (ltb i to))))
-    (and-left (leb from i) (ltb i to && here)) (cases-bool (leb from i)))
-    (nothing-is-bad ps t i)
-
-pub is-within : (low high n : ℕ) → low ≤ n → n ≤ high → within low high n ≡ true
-is-within low high n a b = and-from (leb low n) (leb n high) (le-leb low n a) (le-leb n high b)
-
-none-is-true : (bs : List Bool) → All (λ b. b ≡ false) bs → (i : ℕ) → getD bs i false ≡ false
-none-is-true [] h i = refl
-none-is-true (b ∷ bs) (h, t) zero = h
-none-is-true (b ∷ bs) (h, t) (suc i) = none-is-true bs t i
-
-pub no-count-is-bad : (ws : List ℕ) (c : Counts) → Ready ws c → 1 ≤ c .districts → (i : ℕ) → bad-count c i ≡ false
-no-count-is-bad ws c r some =
-    none-is-true
-    (false
-    ∷ false
-    ∷ not (within 1 4096 (c .junctions))
-    ∷ not (within 1 64 (c .districts))
-    ∷ ltb (c .junctions) (c .borders)
-    ∷ ltb (c .junctions * c .borders) (c .«border_entries»)
-    ∷ ltb (c .junctions * c .junctions) (c .«district_entries»)
-    ∷ not (eqb (c .words) (total c))
-    ∷ []) (
+pub no-count-is-bad : (ws : List ℕ) (c : Counts) → Ready ws c → 1 ≤ c .districts → (i : ℕ) → i < 8 → bad-count c i ≡ false
+no-count-is-bad ws c r some i l =
+    all-getD (λ b. b ≡ false) (count-faults c) i false l (
       refl,
       (
         refl,

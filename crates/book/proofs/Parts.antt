@@ -6,16 +6,13 @@ use mathlib.Core.Logic.{⊎-elim}
 use Prim.Native.Nat.{ℕ, _+_, _-_, _<_, _≤_}
 use native.Mathlib.Omega.{arith}
 use lib.Dec.{leb, ltb}
-use Rattle.std.proofs.shelf.Tests.{cases-lt, or-parts, or-from, or-left, or-right, or-cases, and-parts, and-left, and-right, lt-leb, le-ltb, le-leb, lt-ltb, ltb-true, false≢true}
+use Rattle.std.specs.shelf.Lists.{All}
+use Rattle.std.proofs.shelf.Tests.{both-ways, cases-bool, cases-lt, or-parts, or-from, or-left, or-right, or-cases, and-parts, and-left, and-right, lt-leb, le-ltb, le-leb, lt-ltb, ltb-true, false≢true}
 use Rattle.std.specs.declared.option.Option.{Option}
 use Rattle.std.specs.declared.option.Option.the-variants.{Some, None}
 use Rattle.book.specs.Layout.{after}
 use Rattle.book.specs.Bad.{Part, bad-in, Finds}
 use Rattle.book.specs.Found.{First-in}
-
-pub none-more : (test : ℕ → Bool) (i : ℕ) → ((k : ℕ) → 0 ≤ k → k < i → test k ≡ false) → test i ≡ false → (k : ℕ) → 0 ≤ k → k < i + 1 → test k ≡ false
-none-more test i before here k low high =
-    ⊎-elim (λ lt. before k low lt) (λ ge. let e : k ≡ i = omega arith in rw e here) (cases-lt k i)
 
 -- the word at place i lies in the part, and is bad
 abbrev pub bad-here : Part → ℕ → Bool
@@ -52,14 +49,36 @@ module _ (p : Part) where
       ltb-true i (after (p .lies)) (and-parts below bad (and-parts from (below && bad) h .1) .0)
 
   -- a part alone
-  pub alone-none : Finds (p .bad) 0 (p .lies .size) None → First-in (p ∷ []) None
-  alone-none h i = or-from (bad-here p i) false (not-here i (λ from below. h (i - p .lies .first) (omega arith) (omega arith))) refl
-
   pub alone-some : (j : ℕ) → Finds (p .bad) 0 (p .lies .size) (Some j) → First-in (p ∷ []) (Some (p .lies .first + j))
   alone-some j h = (
     or-left (bad-here p (p .lies .first + j)) false (is-here j (h .1) (h .2)),
     λ i less. or-from (bad-here p i) false (not-here i (λ from below. h .3 (i - p .lies .first) (omega arith) (omega arith))) refl,
   )
+
+-- no word of a part is bad
+abbrev pub Good-part : Part → Type 0
+Good-part p = (j : ℕ) → j < p .lies .size → p .bad j ≡ false
+
+-- where no part has a bad word, no place is bad
+pub nothing-is-bad : (ps : List Part) → All Good-part ps → First-in ps None
+nothing-is-bad [] h i = refl
+nothing-is-bad (p ∷ ps) (h, t) i =
+    or-from (bad-here p i) (bad-in ps i) (not-here p i (λ from below. h (i - p .lies .first) (omega arith)))
+    (nothing-is-bad ps t i)
+
+-- where no place is bad, no part has a bad word
+pub parts-are-good : (ps : List Part) → First-in ps None → All Good-part ps
+parts-are-good [] h = tt
+parts-are-good (p ∷ ps) h =
+    let here : (i : ℕ) → (bad-here p i ≡ false) × (bad-in ps i ≡ false) = λ i. or-parts (bad-here p i) (bad-in ps i) (h i) in (
+      λ j l. ⊎-elim (λ t. absurd (both-ways (bad-here p (p .lies .first + j)) (here (p .lies .first + j) .0) (is-here p j l t)))
+          (λ f. f) (cases-bool (p .bad j)),
+      parts-are-good ps (λ i. here i .1),
+    )
+
+-- a search of a whole part that finds nothing
+pub part-is-good : (p : Part) (n : ℕ) → p .lies .size ≡ n → Finds (p .bad) 0 n None → Good-part p
+part-is-good p n size h j l = h j (omega arith) (omega arith)
 
 -- bad in one of two lists of parts
 pub bad-in-append : (ps qs : List Part) (i : ℕ) → bad-in (ps ++ qs) i ≡ (bad-in ps i || bad-in qs i)
@@ -110,9 +129,6 @@ first-in-rest ps qs (Some i) none h = (
 
 -- two parts, one after the other, of n and of m words
 module _ (p q : Part) (n m : ℕ) (front : p .lies .size ≡ n) (back : q .lies .size ≡ m) (follows : q .lies .first ≡ after (p .lies)) where
-  front-good : Finds (p .bad) 0 n None → First-in (p ∷ []) None
-  front-good h = alone-none p (subst (λ k. Finds (p .bad) 0 k None) (sym front) h)
-
   pub pair-front : (j first : ℕ) → first ≡ p .lies .first → Finds (p .bad) 0 n (Some j) → First-in (p ∷ q ∷ []) (Some (first + j))
   pair-front j first is h =
       subst (λ f. First-in (p ∷ q ∷ []) (Some (f + j))) (sym is)
@@ -122,10 +138,8 @@ module _ (p q : Part) (n m : ℕ) (front : p .lies .size ≡ n) (back : q .lies 
   pub pair-back : (j first : ℕ) → first ≡ q .lies .first → Finds (p .bad) 0 n None → Finds (q .bad) 0 m (Some j) → First-in (p ∷ q ∷ []) (Some (first + j))
   pair-back j first is none h =
       subst (λ f. First-in (p ∷ q ∷ []) (Some (f + j))) (sym is)
-      (first-in-rest (p ∷ []) (q ∷ []) (Some (q .lies .first + j)) (front-good none)
+      (first-in-rest (p ∷ []) (q ∷ []) (Some (q .lies .first + j)) (nothing-is-bad (p ∷ []) (part-is-good p n front none, tt))
       (alone-some q j (subst (λ k. Finds (q .bad) 0 k (Some j)) (sym back) h)))
 
   pub pair-good : Finds (p .bad) 0 n None → Finds (q .bad) 0 m None → First-in (p ∷ q ∷ []) None
-  pair-good none h =
-      first-in-rest (p ∷ []) (q ∷ []) None (front-good none)
-      (alone-none q (subst (λ k. Finds (q .bad) 0 k None) (sym back) h))
+  pair-good none h = nothing-is-bad (p ∷ q ∷ []) (part-is-good p n front none, (part-is-good q m back h, tt))

@@ -1,32 +1,29 @@
 -- The part of a book's words that is the row of a junction. Assumes nothing.
-use mathlib.Core.Path.{_≡_, refl, sym, _∙_, ap, subst}
-use mathlib.Core.Bool.{Bool, true, false, cond, not, _&&_, _||_}
+use mathlib.Core.Path.{_≡_, _∙_, ap, subst}
+use mathlib.Core.Bool.{not}
 use mathlib.Core.List.{List, [], _∷_}
-use Prim.Native.Nat.{ℕ, _+_, _-_, _*_, _≤_, _<_}
+use Prim.Native.Nat.{ℕ, _-_, _*_, _≤_}
 use native.Mathlib.Omega.{arith}
-use lib.Dec.{eqb, leb, ltb}
 use lib.ListN.{length, take, drop}
 use denote.Ref.{RefT}
 use Rattle.std.specs.declared.result.Result.{Result}
 use Rattle.std.specs.declared.result.Result.the-variants.{Ok, Err}
-use Rattle.std.proofs.shelf.Tests.{and-from, or-parts, cond-false, le-leb, ne-eqb, ltb-false, not-from-true}
 use Rattle.measure.specs.Scale.{Scale}
 use Rattle.drawing.specs.Edits.{within}
 use Rattle.drawing.specs.Outcomes.{refuse, verdict, Ends}
 use Rattle.drawing.specs.declared.refusal.Refusal.{Refusal}
 use Rattle.drawing.specs.declared.refusal.Refusal.the-variants.{NoJunction}
 use Rattle.book.specs.Layout.{word, counts-of, total, Spans, words-in}
-use Rattle.book.specs.Bad.{offset, entry-count, bad-offset}
+use Rattle.book.specs.Bad.{offset}
 use Rattle.book.specs.Opened.{Is-book, Shows, row-words}
 use Rattle.book.specs.Parts.{Is-part, Is-offset, Is-stretch, stretch}
-use Rattle.book.specs.Ready.{Ready, Good-offsets}
 use Rattle.book.specs.declared.counts.Counts.{Counts}
 use Rattle.book.specs.declared.names.Names.{Names}
 use Rattle.book.specs.declared.opened.Book.{Book}
 use Rattle.book.specs.declared.span.Span.{Span}
 use Rattle.book.proofs.IsBook.{ready, good-offsets}
 use Rattle.book.proofs.RowsOfEntries.{next-offset, offset-within}
-use Rattle.book.proofs.Telling.{is-within}
+use Rattle.book.proofs.Limits.{is-within}
 
 -- what was handed out of words that are all there is the part that the span says
 part-is-there :
@@ -59,7 +56,7 @@ module _ (s : Scale) (names : Names) (v : ℕ) (r : Result (RefT (List ℕ)) Ref
       ∙ ap (λ n. take (2 * (end - begin)) (drop n ws)) (is-span .first)
       ∙ ap (λ n. words-in (stretch c names n end) ws) is-begin
       ∙ ap (λ n. words-in (stretch c names (offset ws c names (v - 1)) n) ws) is-end in
-      rw (is-within (word ws 2) v low high) (part-is-there ws (row-words ws names v) p r (omega arith) same h)
+      rw (is-within 1 (word ws 2) v low high) (part-is-there ws (row-words ws names v) p r (omega arith) same h)
 
   pub hands-out :
       (ws : List ℕ) (b : Book) → Is-book s ws → Shows ws b → 1 ≤ v → v ≤ b .counts .junctions

@@ -1,11 +1,11 @@
 -- A row that an opened book hands out is a row: its entries are whole, its hubs ascend, and its values are proper. Assumes nothing.
 use mathlib.Core.Path.{_≡_, refl, sym, _∙_, ap, subst}
-use mathlib.Core.Bool.{Bool, true, false, not, _&&_, _||_}
-use mathlib.Core.List.{List, [], _∷_}
+use mathlib.Core.Bool.{true, false, not, _&&_}
+use mathlib.Core.List.{List, _∷_}
 use Prim.Native.Nat.{ℕ, zero, suc, _+_, _-_, _*_, _≤_, _<_}
 use native.Mathlib.Omega.{arith}
-use lib.Dec.{eqb, leb, ltb}
-use lib.ListN.{length, take, drop, getD}
+use lib.Dec.{eqb, leb}
+use lib.ListN.{length, take, drop}
 use Rattle.std.specs.shelf.Lists.{All}
 use Rattle.std.proofs.shelf.Lists.{drop-more}
 use Rattle.std.proofs.shelf.Tests.{or-parts, not-false, ne-eqb, eqb-false, leb-false, ltb-true}
@@ -13,16 +13,16 @@ use Rattle.std.proofs.shelf.Elements.{all-weaker}
 use Rattle.measure.specs.Scale.{Scale}
 use Rattle.network.specs.Labels.{Entry, entry, Ascends}
 use Rattle.network.specs.Theorems.{Proper}
-use Rattle.book.specs.Layout.{word, counts-of, total, entries}
+use Rattle.book.specs.Layout.{word, counts-of, entries}
 use Rattle.book.specs.Words.{entry-words}
-use Rattle.book.specs.Bad.{offset, entries-at, entry-count, entry-word, right-name, begins-a-row, row-of, bad-name, bad-value, bad-entry}
+use Rattle.book.specs.Bad.{offset, entries-at, entry-count, entry-word, right-name, begins-a-row, row-of, bad-name, bad-value}
 use Rattle.book.specs.Opened.{Is-book, Is-row, row-words}
-use Rattle.book.specs.Ready.{Ready}
 use Rattle.book.specs.Told.{Rows-are-rows}
 use Rattle.book.specs.declared.counts.Counts.{Counts}
 use Rattle.book.specs.declared.names.Names.{Names}
 use Rattle.book.specs.declared.names.Names.the-variants.{Ranks, Hubs}
 use Rattle.book.proofs.IsBook.{ready, good-offsets, good-entries}
+use Rattle.book.proofs.SectionWords.{entries-size, entries-fit}
 use Rattle.book.proofs.RowsOfEntries.{next-offset, offset-within, row-of-an-entry, begins-at-the-offset}
 use Rattle.book.proofs.BadInRow.{at-a-name, at-a-value}
 
@@ -92,11 +92,6 @@ module _ (ws : List ℕ) where
       (λ k l. subst (λ e. entry-from (f + 2) k .hub < e .hub) (sym (later f (suc k)))
       (subst (λ e. e .hub < entry-from f (suc (suc k)) .hub) (sym (later f k)) (h (suc k) (omega arith))))))
 
--- the entries end within the words
-entries-fit : (ws : List ℕ) (c : Counts) (names : Names) → Ready ws c → (entries-at c names) .first + 2 * entry-count c names ≤ length ws
-entries-fit ws c Ranks good = omega arith
-entries-fit ws c Hubs good = omega arith
-
 -- a rank that is right is below the number of borders
 right-rank : (ws : List ℕ) (c : Counts) (v h : ℕ) → right-name ws c Ranks v h ≡ true → h < c .borders
 right-rank ws c v h t = ltb-true h (c .borders) t
@@ -120,6 +115,7 @@ module _ (s : Scale) (ws : List ℕ) (book : Is-book s ws) (names : Names) (v : 
       let good = ready s ws book in
       let offsets = good-offsets s ws book names in
       let fit = entries-fit ws c names good in
+      let size = entries-size c names in
       let rises = next-offset ws c names offsets v low high in
       let few = offset-within ws c names offsets v high in
       omega arith

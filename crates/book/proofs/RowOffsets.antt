@@ -11,7 +11,6 @@ use Rattle.std.proofs.shelf.Tests.{cases-lt}
 use Rattle.std.specs.shelf.Lists.{All}
 use Rattle.network.specs.Labels.{Entry}
 use Rattle.book.specs.Words.{offsets-from, all-entries}
-use Rattle.book.proofs.RisingOffsets.{Never-falls}
 
 -- how many entries the first j rows have
 abbrev pub before : List (List Entry) → ℕ → ℕ
@@ -54,10 +53,6 @@ before-rises (r ∷ rows) (suc i) (suc j) h = let k = before-rises rows i j (ome
 
 pub before-is-at-most-all : (rows : List (List Entry)) (j : ℕ) → j ≤ length rows → before rows j ≤ length (all-entries rows)
 before-is-at-most-all rows j l = omega (arith, before-rises rows j (length rows) l, before-all rows)
-
-pub offsets-never-fall : (rows : List (List Entry)) → Never-falls (offsets-from 0 rows)
-offsets-never-fall rows i j h k =
-    omega (arith, length-offsets 0 rows, before-rises rows i j h, offset-is rows i (omega (arith, length-offsets 0 rows)), offset-is rows j (omega (arith, length-offsets 0 rows)))
 
 -- all entries: those of the first j rows, then those of row number j, then the rest
 pub record Cut (rows : List (List Entry)) (j : ℕ) : Type 0 where

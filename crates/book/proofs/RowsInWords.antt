@@ -1,5 +1,5 @@
 -- Rows that lie in words, as offsets and entries: each row can be read back, and no offset is bad. Assumes nothing.
-use mathlib.Core.Path.{_≡_, refl, sym, _∙_, ap}
+use mathlib.Core.Path.{_≡_, sym, _∙_, ap}
 use mathlib.Core.Bool.{false, cond, not, _&&_, _||_}
 use mathlib.Core.List.{List, [], _++_}
 use mathlib.Core.Logic.{⊎-elim}
@@ -14,8 +14,8 @@ use Rattle.book.specs.Words.{offsets-from, all-entries, entry-words}
 use Rattle.book.specs.Bad.{offsets-at, entries-at, entry-count, offset, bad-offset}
 use Rattle.book.specs.declared.counts.Counts.{Counts}
 use Rattle.book.specs.declared.names.Names.{Names}
-use Rattle.book.specs.declared.names.Names.the-variants.{Ranks, Hubs}
-use Rattle.book.proofs.LaidEndToEnd.{middle, part-of-section, word-of-section, length-entry-words, entry-words-append}
+use Rattle.book.proofs.LaidEndToEnd.{middle, length-entry-words, entry-words-append}
+use Rattle.book.proofs.SectionWords.{word-of-section, part-of-section, offsets-size, entries-size}
 use Rattle.book.proofs.RowOffsets.{before, offset-is, before-none, before-more, before-all, before-rises, before-is-at-most-all, cut}
 
 -- the rows lie in the words: their offsets in the section of offsets, their entries in that of entries
@@ -24,14 +24,6 @@ pub record Rows-lie (ws : List ℕ) (c : Counts) (names : Names) (rows : List (L
   pub entries-lie : words-in (entries-at c names) ws ≡ entry-words (all-entries rows)
   pub as-many-rows : c .junctions ≡ length rows
   pub as-many-entries : entry-count c names ≡ length (all-entries rows)
-
-pub offsets-size : (c : Counts) (names : Names) → (offsets-at c names) .size ≡ c .junctions + 1
-offsets-size c Ranks = refl
-offsets-size c Hubs = refl
-
-pub entries-size : (c : Counts) (names : Names) → (entries-at c names) .size ≡ 2 * entry-count c names
-entries-size c Ranks = refl
-entries-size c Hubs = refl
 
 -- an offset a, after the offset b, where n is the number of junctions and k that of entries
 good-offset : (j n a b k : ℕ) → (j ≡ 0 → a ≡ 0) → b ≤ a → a ≤ k → (j ≡ n → a ≡ k)

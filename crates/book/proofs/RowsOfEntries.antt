@@ -7,17 +7,16 @@ use Prim.Native.Nat.{ℕ, zero, suc, _+_, _-_, _≤_, _<_}
 use native.Mathlib.Nat.{eq-or-lt-of-le}
 use native.Mathlib.Omega.{arith}
 use lib.Dec.{eqb, leb, ltb}
-use lib.ListN.{length, getD, length-take, length-drop}
-use lib.Seq.{getD-take, getD-drop}
+use lib.ListN.{length, getD}
 use Rattle.std.specs.shelf.Lists.{kept-by}
 use Rattle.std.proofs.shelf.Tests.{le-leb, lt-leb, ltb-false, cases-eq, cases-lt, eq-eqb, ne-eqb, or-parts}
 use Rattle.std.proofs.shelf.Ways.{tells}
 use Rattle.book.specs.declared.counts.Counts.{Counts}
 use Rattle.book.specs.declared.names.Names.{Names}
-use Rattle.book.specs.declared.names.Names.the-variants.{Ranks, Hubs}
 use Rattle.book.specs.Layout.{words-in}
 use Rattle.book.specs.Bad.{among, offsets-at, entry-count, offset, begins-a-row, row-of}
 use Rattle.book.specs.Ready.{Ready, Good-offsets}
+use Rattle.book.proofs.SectionWords.{section-length, section-word, offsets-size, entries-follow, entries-fit}
 
 -- where just the first v of a list are at most e, a test for that keeps v of them
 pub keeps-the-first : (e : ℕ) (xs : List ℕ) (v : ℕ) → v ≤ length xs → ((j : ℕ) → j < v → getD xs j 0 ≤ e) → ((j : ℕ) → v ≤ j → j < length xs → e < getD xs j 0) → length (kept-by (λ o. leb o e) xs) ≡ v
@@ -40,29 +39,17 @@ pub not-among : (e : ℕ) (xs : List ℕ) → ((j : ℕ) → j < length xs → e
 not-among e [] other = refl
 not-among e (x ∷ xs) other = rw (ne-eqb e x (other 0 (omega arith))) (not-among e xs (λ j h. other (suc j) (omega arith)))
 
--- the offsets end within the words
-offsets-fit : (ws : List ℕ) (c : Counts) (names : Names) → Ready ws c → (offsets-at c names) .first + (c .junctions + 1) ≤ length ws
-offsets-fit ws c Ranks ready = omega arith
-offsets-fit ws c Hubs ready = omega arith
-
-offsets-size : (c : Counts) (names : Names) → (offsets-at c names) .size ≡ c .junctions + 1
-offsets-size c Ranks = refl
-offsets-size c Hubs = refl
-
 module _ (ws : List ℕ) (c : Counts) (names : Names) (ready : Ready ws c) where
   -- there is one offset more than junctions
   pub how-many-offsets : length (words-in (offsets-at c names) ws) ≡ c .junctions + 1
   how-many-offsets =
-      let fit = offsets-fit ws c names ready in
-      let size = offsets-size c names in
-      simp (length-take, length-drop) (omega arith)
+      let fit = entries-fit ws c names ready in
+      let follow = entries-follow c names in
+      section-length (offsets-at c names) ws (omega arith) ∙ offsets-size c names
 
   -- each is the word where it lies
   pub offset-at : (j : ℕ) → j ≤ c .junctions → getD (words-in (offsets-at c names) ws) j 0 ≡ offset ws c names j
-  offset-at j h =
-      let size = offsets-size c names in
-      let below : j < (offsets-at c names) .size = omega arith in
-      rw (getD-take, getD-drop)
+  offset-at j h = section-word (offsets-at c names) ws j (omega (arith, offsets-size c names))
 
 -- what an offset that is not bad shows: the number j of the offset, the offset before it, and the number of all entries
 begins : (j here before : ℕ) → cond (eqb j 0) (not (eqb here 0)) (ltb here before) ≡ false → j ≡ 0 → here ≡ 0

@@ -1,23 +1,19 @@
 -- What an opened book tells: the words of its sections. Assumes nothing.
-use mathlib.Core.Path.{_≡_, refl, sym, _∙_, ap, subst}
-use mathlib.Core.Bool.{true, cond, not}
+use mathlib.Core.Path.{_≡_, sym, _∙_, ap, subst}
+use mathlib.Core.Bool.{not}
 use mathlib.Core.List.{List, [], _∷_}
 use Prim.Native.Nat.{ℕ, _+_, _-_, _≤_, _<_}
 use native.Mathlib.Omega.{arith}
-use lib.Dec.{leb, ltb}
-use lib.ListN.{length, getD, take, drop}
-use Rattle.std.specs.declared.option.Option.{Option}
+use lib.Dec.{ltb}
+use lib.ListN.{length, getD}
 use Rattle.std.specs.declared.option.Option.the-variants.{Some, None}
-use Rattle.std.specs.declared.result.Result.{Result}
-use Rattle.std.specs.declared.result.Result.the-variants.{Ok, Err}
-use Rattle.std.proofs.shelf.Lists.{getD-take, getD-drop}
-use Rattle.std.proofs.shelf.Tests.{and-from, cond-true, le-leb, lt-ltb}
+use Rattle.std.specs.declared.result.Result.the-variants.{Ok}
+use Rattle.std.proofs.shelf.Tests.{cond-true, lt-ltb}
 use Rattle.measure.specs.Scale.{Scale}
 use Rattle.drawing.specs.Edits.{within}
 use Rattle.drawing.specs.Outcomes.{refuse, verdict, Ends}
-use Rattle.drawing.specs.declared.refusal.Refusal.{Refusal}
 use Rattle.drawing.specs.declared.refusal.Refusal.the-variants.{NoJunction}
-use Rattle.book.specs.Layout.{word, counts-of, total, Section, Spans, Is-section, places-at, order-at, words-in}
+use Rattle.book.specs.Layout.{word, counts-of, Section, Spans, Is-section, places-at, order-at}
 use Rattle.book.specs.Opened.{Is-book, Shows}
 use Rattle.book.specs.Parts.{Is-word}
 use Rattle.book.specs.Told.{border-order, border-of}
@@ -25,14 +21,13 @@ use Rattle.book.specs.declared.counts.Counts.{Counts}
 use Rattle.book.specs.declared.opened.Book.{Book}
 use Rattle.book.specs.declared.span.Span.{Span}
 use Rattle.book.proofs.IsBook.{ready}
+use Rattle.book.proofs.Limits.{is-within}
+use Rattle.book.proofs.SectionWords.{section-word}
 
--- a number from 1 to a limit passes the check of a junction
-pub is-within : (high v : ℕ) → 1 ≤ v → v ≤ high → within 1 high v ≡ true
-is-within high v low le = and-from (leb 1 v) (leb v high) (le-leb 1 v low) (le-leb v high le)
-
--- a word of a section, by its number there
-pub word-of-section : (x : Section) (ws : List ℕ) (j : ℕ) → j < x .size → getD (words-in x ws) j 0 ≡ word ws (x .first + j)
-word-of-section x ws j l = getD-take (x .size) (drop (x .first) ws) j 0 l ∙ getD-drop (x .first) ws j 0
+-- the border of a rank that there is
+pub border-of-rank : (ws : List ℕ) (rank : ℕ) → rank < word ws 4 → border-of ws rank ≡ Some (getD (border-order ws) rank 0)
+border-of-rank ws rank l =
+    cond-true (ltb rank (word ws 4)) (Some (getD (border-order ws) rank 0)) None (lt-ltb rank (word ws 4) l)
 
 module _ (s : Scale) (ws : List ℕ) (b : Book) (book : Is-book s ws) (shows : Shows ws b) where
   -- what is read of a section of an opened book is its word
@@ -52,8 +47,8 @@ module _ (s : Scale) (ws : List ℕ) (b : Book) (book : Is-book s ws) (shows : S
       → Some x ≡ border-of ws rank
   tells-the-border p rank x low section h =
       let l : rank < word ws 4 = subst (λ c. rank < c .borders) (shows .counts) low in
-      ap Some (reads order-at p rank x section h l ∙ sym (word-of-section (order-at (counts-of ws)) ws rank l))
-      ∙ sym (cond-true (ltb rank (word ws 4)) (Some (getD (border-order ws) rank 0)) None (lt-ltb rank (word ws 4) l))
+      ap Some (reads order-at p rank x section h l ∙ sym (section-word (order-at (counts-of ws)) ws rank l))
+      ∙ sym (border-of-rank ws rank l)
 
   pub tells-the-district :
       (p : Span) (v x : ℕ) → 1 ≤ v → v ≤ b .counts .junctions → Is-section (b .counts) places-at p → Is-word (b .words .now) p (v - 1) x
@@ -61,4 +56,4 @@ module _ (s : Scale) (ws : List ℕ) (b : Book) (book : Is-book s ws) (shows : S
       (λ d. d ≡ word ws ((places-at (counts-of ws)) .first + (v - 1)))
   tells-the-district p v x low high section h =
       let l : v ≤ word ws 2 = subst (λ c. v ≤ c .junctions) (shows .counts) high in
-      rw (is-within (word ws 2) v low l) (reads places-at p (v - 1) x section h (omega arith))
+      rw (is-within 1 (word ws 2) v low l) (reads places-at p (v - 1) x section h (omega arith))

@@ -1,7 +1,7 @@
 -- How a book lies in its words: eight words of counts, then six sections. Assumes nothing.
 use mathlib.Core.Path.{_≡_}
 use mathlib.Core.List.{List, [], _∷_}
-use Prim.Native.Nat.{ℕ, _+_, _-_, _*_, _≤_}
+use Prim.Native.Nat.{ℕ, _+_, _*_, _≤_}
 use lib.ListN.{length, getD, take, drop}
 use Rattle.network.specs.Labels.{Entry, entry}
 use Rattle.book.specs.declared.counts.Counts.{Counts}

@@ -1,6 +1,6 @@
 -- What open answers, and what an opened book shows. Assumes nothing.
 use mathlib.Core.Path.{_≡_}
-use mathlib.Core.Bool.{Bool, true, false, not, _||_}
+use mathlib.Core.Bool.{not, _||_}
 use mathlib.Core.List.{List, [], _∷_}
 use mathlib.Core.Logic.{_⊎_}
 use Prim.Native.Nat.{ℕ, _+_, _-_, _*_}
@@ -22,7 +22,7 @@ use Rattle.network.specs.Labels.{Entry, meet, Ascends}
 use Rattle.network.specs.Theorems.{Proper}
 use Rattle.book.specs.Layout.{word, counts-of, Section, section, words-in, entries}
 use Rattle.book.specs.Words.{entry-words}
-use Rattle.book.specs.Bad.{offsets-at, entries-at, offset, First-bad, None-bad}
+use Rattle.book.specs.Bad.{entries-at, offset, First-bad, None-bad}
 use Rattle.book.specs.declared.names.Names.{Names}
 use Rattle.book.specs.declared.opened.Book.{Book}
 

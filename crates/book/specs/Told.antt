@@ -18,12 +18,13 @@ use Rattle.drawing.specs.declared.refusal.Refusal.the-variants.{NoJunction}
 use Rattle.book.specs.Layout.{word, counts-of, places-at, order-at, words-in, entries}
 use Rattle.book.specs.Bad.{right-name}
 use Rattle.book.specs.Opened.{Is-book, Shows, Is-row, row-words, as-pair-by-rank}
+use Rattle.book.specs.declared.counts.Counts.{Counts}
 use Rattle.book.specs.declared.names.Names.the-variants.{Ranks, Hubs}
 use Rattle.book.specs.declared.opened.Book.{Book}
 
--- A call on an opened book answers x, where f says what that is by the book's words.
-abbrev pub Tells : (List ℕ → ℕ) → Book → ℕ → Type 0
-Tells f b x = (ws : List ℕ) → Shows ws b → x ≡ f ws
+-- A call on an opened book answers the counts that its words say.
+abbrev pub Tells-the-counts : Book → Counts → Type 0
+Tells-the-counts b c = (ws : List ℕ) → Shows ws b → c ≡ counts-of ws
 
 -- A call on an opened book answers the district of junction v, or refuses v with 4 if it is no junction.
 abbrev pub Tells-the-district : Scale → Book → ℕ → Result ℕ Refusal → Type 0
@@ -43,6 +44,11 @@ border-of ws rank = cond (ltb rank (word ws 4)) (Some (getD (border-order ws) ra
 -- A call on an opened book answers the border of this rank.
 abbrev pub Tells-the-border : Scale → Book → ℕ → Option ℕ → Type 0
 Tells-the-border s b rank r = (ws : List ℕ) → Is-book s ws → Shows ws b → r ≡ border-of ws rank
+
+-- a value and the border where it is reached, if there is one
+abbrev pub with-border : ℕ → Option ℕ → Option (ℕ × ℕ)
+with-border x None = None
+with-border x (Some y) = Some (x, y)
 
 -- the words of a row whose names are ranks in the book's border order
 pub record Is-border-row (s : Scale) (ws p : List ℕ) : Type 0 where

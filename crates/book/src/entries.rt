@@ -1,38 +1,21 @@
 // The first bad word of the entries of a book.
 ghost use mathlib.Core.Path.{_≡_};
-ghost use Prim.Native.Nat.{_+_, _*_, _<_, _≤_};
-ghost use lib.ListN.{length};
-ghost use Rattle.book.specs.Layout.{word};
-ghost use Rattle.book.specs.Bad.{offset, entry-word, entry-count, right-name, bad-value, bad-entry, Finds};
+ghost use Prim.Native.Nat.{_*_, _<_, _≤_};
+ghost use Rattle.book.specs.Bad.{entry-word, entry-count, right-name, bad-value, bad-entry, Finds};
 ghost use Rattle.book.specs.InRow.{Lies, bad-name-in};
 ghost use Rattle.book.specs.Ready.{Ready, Good-offsets};
 use super::Counts;
-use super::Names;
-use super::Span;
+use super::names::Names;
+use super::sections::offset_word;
+use super::sections::word_at;
 use measure::Measure;
-
-// Word number `place` of a section.
-fn word_of(words: &[u64], section: Span, place: u64) -> u64
-    requires { ⌜ place < section .length ⌝ ∗ ⌜ section .total ≤ length (now words) ⌝ }
-    ensures { λ r. ⌜ r ≡ word (now (words .entry)) (section .first + place) ⌝ }
-{
-    words[(section.first + place) as usize]
-}
-
-// Offset number `place` of the border rows or of the district rows.
-fn offset_word(words: &[u64], counts: &Counts, names: Names, place: u64) -> u64
-    requires { ⌜ Ready (now words) (now counts) ⌝ ∗ ⌜ place ≤ now counts .junctions ⌝ }
-    ensures { λ r. ⌜ r ≡ offset (now (words .entry)) (now (counts .entry)) names place ⌝ }
-{
-    word_of(words, counts.offsets(names), place)
-}
 
 // Word number `place` of the border entries or of the district entries.
 fn entry_word(words: &[u64], counts: &Counts, names: Names, place: u64) -> u64
     requires { ⌜ Ready (now words) (now counts) ⌝ ∗ ⌜ place < 2 * entry-count (now counts) names ⌝ }
     ensures { λ r. ⌜ r ≡ entry-word (now (words .entry)) (now (counts .entry)) names place ⌝ }
 {
-    word_of(words, counts.entries(names), place)
+    word_at(words, counts.entries(names), place)
 }
 
 // Whether a hub's name is right in the row of a junction.
@@ -45,8 +28,8 @@ fn is_right_name(words: &[u64], counts: &Counts, names: Names, junction: u64, na
         Names::Hubs => {
             1 <= name
                 && name <= counts.junctions
-                && word_of(words, counts.places(), name - 1)
-                    == word_of(words, counts.places(), junction - 1)
+                && word_at(words, counts.places(), name - 1)
+                    == word_at(words, counts.places(), junction - 1)
         }
     }
 }

@@ -17,7 +17,6 @@ mod written;
 pub use counts::Counts;
 pub use joining::join_rows;
 pub use meeting::rows_are_rows;
-pub use names::Names;
 pub use opened::Book;
 pub use opening::open;
 pub use span::Span;

@@ -1,11 +1,20 @@
 // Two rows of an opened book joined.
 ghost use Prim.Native.Nat.{ℕ};
+ghost use mathlib.Core.Path.{_≡_};
 ghost use mathlib.Core.List.{List};
 ghost use Rattle.book.specs.Opened.{Is-book, Joins-two-rows};
-ghost use Rattle.book.specs.Told.{Joins-border-rows, Rows-are-rows};
+ghost use Rattle.book.specs.Told.{with-border, Joins-border-rows, Rows-are-rows};
 use super::Book;
 use super::joining::join_rows;
 use measure::Measure;
+
+// A value and the border where it is reached, if there is one.
+fn with_border(value: u64, border: Option<u64>) -> Option<(u64, u64)>
+    ensures { λ r. ⌜ r ≡ with-border value border ⌝ }
+{
+    let border = border?;
+    Some((value, border))
+}
 
 impl<'a> Book<'a> {
     // Two border rows joined: the best value that they give, and the first border that gives it.
@@ -13,8 +22,7 @@ impl<'a> Book<'a> {
         ensures { λ r. ⌜ Joins-border-rows (M·Measure .scale) (now (self .entry)) (now (first .entry)) (now (second .entry)) r ⌝ }
     {
         let (value, rank) = join_rows::<M>(first, second)?;
-        let border = self.border(rank)?;
-        Some((value, border))
+        with_border(value, self.border(rank))
     }
 
     // Two district rows joined: the best value that they give, and the first junction that gives it.

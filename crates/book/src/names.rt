@@ -2,7 +2,7 @@
 
 // Border rows name a hub by its rank in the border order, from 0; district rows by its junction.
 #[derive(Clone, Copy)]
-pub enum Names {
+pub(crate) enum Names {
     Ranks,
     Hubs,
 }

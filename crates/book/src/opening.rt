@@ -5,15 +5,16 @@ ghost use Prim.Native.Nat.{_+_, _<_, _≤_};
 ghost use lib.ListN.{length, take};
 ghost use Rattle.book.specs.Bad.{count-faults, bad-district, bad-border, bad-offset, place-parts, row-parts, Finds, parts};
 ghost use Rattle.book.specs.Found.{first-true, First-in, Few, Marks};
-ghost use Rattle.book.specs.Layout.{word, counts-of, total, words-in, order-at};
+ghost use Rattle.book.specs.Layout.{counts-of, total, words-in, order-at};
 ghost use Rattle.book.specs.Opened.{open-checks, Opens-exactly-books};
 ghost use Rattle.book.specs.Ready.{Ready};
 ghost use Rattle.drawing.specs.Outcomes.{verdict};
 use super::Book;
 use super::Counts;
-use super::Names;
-use super::Span;
 use super::entries::bad_entry;
+use super::names::Names;
+use super::sections::offset_word;
+use super::sections::word_at;
 use drawing::MOST_DISTRICTS;
 use drawing::MOST_JUNCTIONS;
 use drawing::Refusal;
@@ -89,14 +90,6 @@ fn bad_count(counts: &Counts) -> Option<u64>
     None
 }
 
-// Word number j of a section.
-fn word_at(words: &[u64], span: Span, j: u64) -> u64
-    requires { ⌜ j < span .length ⌝ ∗ ⌜ span .total ≤ length (now words) ⌝ }
-    ensures { λ r. ⌜ r ≡ word (now (words .entry)) (span .first + j) ⌝ }
-{
-    words[(span.first + j) as usize]
-}
-
 // Whether the district of junction j + 1 is bad.
 fn is_bad_district(words: &[u64], counts: &Counts, j: u64) -> bool
     requires { ⌜ Ready (now words) (now counts) ⌝ ∗ ⌜ j < now counts .junctions ⌝ }
@@ -154,11 +147,11 @@ fn is_bad_offset(words: &[u64], counts: &Counts, names: Names, j: u64) -> bool
     requires { ⌜ Ready (now words) (now counts) ⌝ ∗ ⌜ j ≤ now counts .junctions ⌝ }
     ensures { λ r. ⌜ r ≡ bad-offset (now (words .entry)) (now (counts .entry)) names j ⌝ }
 {
-    let offset = word_at(words, counts.offsets(names), j);
+    let offset = offset_word(words, counts, names, j);
     let falls = if j == 0 {
         offset != 0
     } else {
-        offset < word_at(words, counts.offsets(names), j - 1)
+        offset < offset_word(words, counts, names, j - 1)
     };
     let entries = counts.entry_count(names);
     falls || offset > entries || (j == counts.junctions && offset != entries)

@@ -5,8 +5,8 @@ ghost use Rattle.book.specs.declared.names.Names.the-variants.{Ranks, Hubs};
 ghost use Rattle.measure.specs.Scale.{Scale};
 use super::Book;
 use super::Counts;
-use super::Names;
 use super::Span;
+use super::names::Names;
 use drawing::Refusal;
 
 // The part of the words that the span says, where they are all there.
@@ -21,7 +21,7 @@ fn part(words: &[u64], span: Span) -> Result<&[u64], Refusal>
 
 impl Counts {
     // The entries from number `begin` to before number `end`, of the rows with these names.
-    fn stretch(&self, names: Names, begin: u64, end: u64) -> Span
+    pub(crate) fn stretch(&self, names: Names, begin: u64, end: u64) -> Span
         ensures { λ r. ⌜ Is-stretch (now (self .entry)) names begin end r ⌝ }
     {
         let entries = self.entries(names);

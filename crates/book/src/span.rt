@@ -14,7 +14,7 @@ pub struct Span {
 
 impl Span {
     // The span with this first word and length, cut off where it would reach past the total.
-    pub fn new(first: u64, length: u64, total: u64) -> Span
+    pub(crate) fn new(first: u64, length: u64, total: u64) -> Span
         ensures first { λ r. ⌜ r .first ≡ min first total ⌝ }
         ensures length { λ r. ⌜ r .length ≡ min length (total - min first total) ⌝ }
         ensures total { λ r. ⌜ r .total ≡ total ⌝ }
@@ -29,7 +29,7 @@ impl Span {
     }
 
     // The place after the span's last word.
-    pub fn after(&self) -> u64
+    pub(crate) fn after(&self) -> u64
         ensures { λ r. ⌜ r ≡ now (self .entry) .first + now (self .entry) .length ⌝ }
     {
         self.first + self.length

@@ -1,51 +1,16 @@
 // What an opened book tells of itself: its counts, and its districts and borders.
-ghost use Rattle.book.specs.Layout.{word};
-ghost use Rattle.book.specs.Told.{Tells, Tells-the-district, Tells-the-border};
+ghost use Rattle.book.specs.Told.{Tells-the-counts, Tells-the-district, Tells-the-border};
 ghost use Rattle.measure.specs.Scale.{Scale};
 use super::Book;
+use super::Counts;
 use drawing::Refusal;
 
 impl<'a> Book<'a> {
-    // How many junctions the book has.
-    pub fn junctions(&self) -> u64
-        ensures { λ r. ⌜ Tells (λ ws. word ws 2) (now (self .entry)) r ⌝ }
+    // How many junctions, districts, borders, entries and words the book has.
+    pub fn counts(&self) -> Counts
+        ensures { λ r. ⌜ Tells-the-counts (now (self .entry)) r ⌝ }
     {
-        self.counts.junctions
-    }
-
-    // How many districts it has.
-    pub fn districts(&self) -> u64
-        ensures { λ r. ⌜ Tells (λ ws. word ws 3) (now (self .entry)) r ⌝ }
-    {
-        self.counts.districts
-    }
-
-    // How many borders it has.
-    pub fn borders(&self) -> u64
-        ensures { λ r. ⌜ Tells (λ ws. word ws 4) (now (self .entry)) r ⌝ }
-    {
-        self.counts.borders
-    }
-
-    // How many entries its border rows have.
-    pub fn border_entries(&self) -> u64
-        ensures { λ r. ⌜ Tells (λ ws. word ws 5) (now (self .entry)) r ⌝ }
-    {
-        self.counts.border_entries
-    }
-
-    // How many entries its district rows have.
-    pub fn district_entries(&self) -> u64
-        ensures { λ r. ⌜ Tells (λ ws. word ws 6) (now (self .entry)) r ⌝ }
-    {
-        self.counts.district_entries
-    }
-
-    // How many words it has.
-    pub fn size(&self) -> u64
-        ensures { λ r. ⌜ Tells (λ ws. word ws 7) (now (self .entry)) r ⌝ }
-    {
-        self.counts.words
+        self.counts
     }
 
     // The district of a junction.

@@ -3,7 +3,7 @@ use Prim.Native.Nat.{_+_, _-_, _*_}
 use native.Mathlib.Omega.{arith}
 use Rattle.book.specs.Bad.{entry-count, bad-entry}
 use Rattle.book.proofs.RowsOfEntries.{offsets-begin-at-zero, offsets-end-at-the-count, offset-within}
-use Rattle.book.proofs.BadInRow.{none-further, found-further}
+use Rattle.book.proofs.Searches.{none-further, found-further}
 use Rattle.book.proofs.entries.bad_entry.Needs as need
 
 pub loop-junction-holds : need.loop-junction-holds

@@ -1,5 +1,5 @@
 use mathlib.Core.Path.{_≡_}
-use Prim.Native.Nat.{ℕ, _-_, _*_}
+use Prim.Native.Nat.{_-_, _*_}
 use Rattle.std.specs.declared.option.Option.the-variants.{None}
 use Rattle.book.specs.Bad.{offset, bad-entry, Finds}
 use Rattle.book.proofs.entries.bad_entry.Given as given

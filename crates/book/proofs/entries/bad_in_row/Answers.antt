@@ -2,7 +2,8 @@ use mathlib.Core.Bool.{true, false}
 use Prim.Native.Nat.{_*_}
 use native.Mathlib.Omega.{arith}
 use Rattle.book.specs.Bad.{bad-entry}
-use Rattle.book.proofs.BadInRow.{name-tells, value-tells, one-word-more, one-entry-more}
+use Rattle.book.proofs.BadInRow.{name-tells, value-tells}
+use Rattle.book.proofs.Searches.{one-word-more, one-entry-more}
 use Rattle.book.proofs.entries.bad_in_row.Needs as need
 
 pub returns-then-is-bad-name : need.returns-then-is-bad-name

@@ -1,4 +1,4 @@
-use Prim.Native.Nat.{ℕ, _*_}
+use Prim.Native.Nat.{_*_}
 use Rattle.std.specs.declared.option.Option.the-variants.{None}
 use Rattle.book.specs.Bad.{bad-entry, Finds}
 use Rattle.book.proofs.entries.bad_in_row.Given as given
