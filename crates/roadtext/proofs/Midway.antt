@@ -13,7 +13,7 @@ use Rattle.roadtext.specs.declared.steps.Progress.{Progress}
 use Rattle.roadtext.specs.declared.steps.Step.{Step}
 use Rattle.roadtext.specs.Text.{lines, fields, Cut-line}
 use Rattle.roadtext.specs.Reading.{State, Room, Fault, fault, at-line, read-line, then-lines, read-lines, nothing-read, ended}
-use Rattle.roadtext.specs.Checked.{junctions-read, ended-at}
+use Rattle.roadtext.specs.Checked.{junctions-read, ended-at, Reads-line}
 use Rattle.roadtext.specs.Steps.{Steps, progress-of, stepped, Startable, Counted}
 
 -- st has been read, which has come as far as p; reading the rest, from line number l on, is reading the text
@@ -32,6 +32,16 @@ module _ {s : Scale} {room : Room} {text : List ℕ} {l : ℕ} {rest : List ℕ}
       { came = steps .keeps room st (here .came)
       ; left = sym (ap (then-lines (read-lines s room (l + 1) (lines more))) (steps .read room st (here .came) l)) ∙ first-line cut
       }
+
+  -- the same, as checking goes on
+  pub midway-checked : {line more : List ℕ} (q : Progress × ℕ) → Cut-line rest line more → Reads-line s (fields line) p l (Ok q) → Counted p (p .stage)
+      → (there : State) × Midway s room text (q .1) more there (q .0) × Counted (q .0) (q .0 .stage)
+  midway-checked {line} {more} q cut read counted =
+      let t = read .0 in
+      ( stepped st t
+      , subst (λ k. Midway s room text k more (stepped st t) (q .0)) (sym (read .3))
+        (subst (λ v. Midway s room text (l + 1) more (stepped st t) v) (sym (read .2)) (midway-next t cut (read .1)))
+      , subst (λ v. Counted v (v .stage)) (sym (read .2)) (read .1 .counts counted) )
 
   pub midway-fault : {line more : List ℕ} (f : LineFault) → Cut-line rest line more → Steps s (fields line) p (Err f) → read-lines s room 1 (lines text) nothing-read ≡ Err (fault l (f .field) (f .cause))
   midway-fault {line} {more} f cut steps =
