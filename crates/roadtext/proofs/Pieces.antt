@@ -1,6 +1,6 @@
 -- The first piece of a text that a byte parts: the lines of a text, the fields of a line. Assumes nothing.
 use mathlib.Core.Path.{_≡_, refl, sym, ap, _∙_}
-use mathlib.Core.Bool.{Bool, true, false, cond}
+use mathlib.Core.Bool.{true, false, cond}
 use mathlib.Core.List.{List, [], _∷_}
 use Prim.Native.Nat.{ℕ, suc, _+_, _<_, _≤_}
 use native.Mathlib.Numerals.{add-one}
@@ -31,21 +31,21 @@ module _ (pieces : List ℕ → List (List ℕ)) (s : ℕ)
   piece-cut (b ∷ bs) h =
       step b bs
       ∙ elim (eqb b s) as (λ v. cond v 0 (suc (place-of s bs)) < suc (length bs) →
-          cond v ([] ∷ pieces bs) (put-first b (pieces bs))
-          ≡ take (cond v 0 (suc (place-of s bs))) (b ∷ bs) ∷ pieces (drop (suc (cond v 0 (suc (place-of s bs)))) (b ∷ bs)))
-        [ true ↦ λ _. refl | false ↦ λ k. ap (put-first b) (piece-cut bs (omega arith)) ] h
+      cond v ([] ∷ pieces bs) (put-first b (pieces bs))
+      ≡ take (cond v 0 (suc (place-of s bs))) (b ∷ bs) ∷ pieces (drop (suc (cond v 0 (suc (place-of s bs)))) (b ∷ bs)))
+      [ true ↦ λ _. refl | false ↦ λ k. ap (put-first b) (piece-cut bs (omega arith)) ] h
 
   -- where it is not found, all is one piece
   piece-whole : ((b : ℕ) → put-first b (pieces []) ≡ (b ∷ []) ∷ []) → (b : ℕ) (bs : List ℕ) → length (b ∷ bs) ≤ place-of s (b ∷ bs) → pieces (b ∷ bs) ≡ (b ∷ bs) ∷ []
   piece-whole one b [] h =
       step b []
       ∙ elim (eqb b s) as (λ v. 1 ≤ cond v 0 1 → cond v ([] ∷ pieces []) (put-first b (pieces [])) ≡ (b ∷ []) ∷ [])
-        [ true ↦ λ k. absurd (omega arith) | false ↦ λ _. one b ] h
+      [ true ↦ λ k. absurd (omega arith) | false ↦ λ _. one b ] h
   piece-whole one b (c ∷ bs) h =
       step b (c ∷ bs)
       ∙ elim (eqb b s) as (λ v. suc (suc (length bs)) ≤ cond v 0 (suc (place-of s (c ∷ bs))) →
-          cond v ([] ∷ pieces (c ∷ bs)) (put-first b (pieces (c ∷ bs))) ≡ (b ∷ c ∷ bs) ∷ [])
-        [ true ↦ λ k. absurd (omega arith) | false ↦ λ k. ap (put-first b) (piece-whole one c bs (omega arith)) ] h
+      cond v ([] ∷ pieces (c ∷ bs)) (put-first b (pieces (c ∷ bs))) ≡ (b ∷ c ∷ bs) ∷ [])
+      [ true ↦ λ k. absurd (omega arith) | false ↦ λ k. ap (put-first b) (piece-whole one c bs (omega arith)) ] h
 
 pub fields-cut : (bs : List ℕ) → place-of 32 bs < length bs → fields bs ≡ take (place-of 32 bs) bs ∷ fields (drop (place-of 32 bs + 1) bs)
 fields-cut bs h = rw add-one (piece-cut fields 32 (λ _ _. refl) bs h)
@@ -64,10 +64,12 @@ lines-whole (b ∷ bs) some h = piece-whole lines 10 (λ _ _. refl) (λ _. refl)
 -- the first line of a text, where byte 10 is found, and where it is not
 pub line-cut : (text : List ℕ) (end : ℕ) → end ≡ place-of 10 text → end < length text → Cut-line text (take end text) (drop (end + 1) text)
 line-cut text end e h = record {
-    lines-are = rw e (lines-cut text (rw e at h));
-    shorter = simp length-drop (omega arith) }
+  lines-are = rw e (lines-cut text (rw e at h));
+  shorter = simp length-drop (omega arith);
+}
 
 pub line-whole : (text : List ℕ) (end : ℕ) → end ≡ place-of 10 text → 0 < length text → length text ≤ end → Cut-line text text (drop end text)
 line-whole text end e some h = record {
-    lines-are = rw (drop-all end text h) (lines-whole text some (rw e at h));
-    shorter = simp length-drop (omega arith) }
+  lines-are = rw (drop-all end text h) (lines-whole text some (rw e at h));
+  shorter = simp length-drop (omega arith);
+}

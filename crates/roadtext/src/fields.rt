@@ -1,17 +1,17 @@
 // The fields of a line, and the numbers that they write.
 ghost use mathlib.Core.Path.{_≡_};
-ghost use Prim.Native.Nat.{_≤_};
+ghost use mathlib.Core.Bool.{cond};
+ghost use Prim.Native.Nat.{_≤_, _<_};
 ghost use lib.ListN.{length};
-ghost use Rattle.roadtext.specs.Text.{place-of, number as number-of, fields, field as field-of};
+ghost use Rattle.std.specs.declared.option.Option.the-variants.{Some, None};
+ghost use Rattle.roadtext.specs.Text.{place-of, number as number-of, all-digits, digits-after, fields, field as field-of};
 ghost use Rattle.std.specs.Options.{mapped};
 
-// The number that a field writes, if it has 1 to 10 digits and nothing else.
-pub(crate) fn number(text: &[u8]) -> Option<u64>
-    ensures { λ r. ⌜ r ≡ number-of (now (text .entry)) ⌝ }
+// The number that the bytes write, if they are decimal digits and no more than fit.
+fn read_digits(text: &[u8]) -> Option<u64>
+    requires { ⌜ length (now text) < 20 ⌝ }
+    ensures { λ r. ⌜ r ≡ cond (all-digits (now (text .entry))) (Some (digits-after 0 (now (text .entry)))) None ⌝ }
 {
-    if text.len() < 1 || text.len() > 10 {
-        return None;
-    }
     let mut n: u64 = 0;
     for b in text {
         if *b < b'0' || *b > b'9' {
@@ -20,6 +20,16 @@ pub(crate) fn number(text: &[u8]) -> Option<u64>
         n = 10 * n + u64::from(*b - b'0');
     }
     Some(n)
+}
+
+// The number that a field writes, if it has 1 to 10 digits and nothing else.
+pub(crate) fn number(text: &[u8]) -> Option<u64>
+    ensures { λ r. ⌜ r ≡ number-of (now (text .entry)) ⌝ }
+{
+    if text.len() < 1 || text.len() > 10 {
+        return None;
+    }
+    read_digits(text)
 }
 
 // The place of the first such byte, or the length where there is none.

@@ -4,7 +4,7 @@ ghost use Prim.Native.Nat.{_^_, _<_};
 ghost use mathlib.Core.List.{[], _∷_};
 ghost use lib.Dec.{eqb};
 ghost use Rattle.roadtext.specs.Text.{fields, letter-of};
-ghost use Rattle.roadtext.specs.Lines.{check, bad-field, no-number, number-at, junction-checks, end-check, p-checks, a-checks, d-checks, q-checks, passed};
+ghost use Rattle.roadtext.specs.Lines.{check, bad-field, no-number, number-at, field-is, junction-checks, end-check, p-checks, a-checks, d-checks, q-checks, passed};
 ghost use Rattle.roadtext.specs.Lines.{head-in, arc-in, two-in};
 use super::fields::field;
 use super::fields::number;
@@ -83,18 +83,25 @@ fn end_after(line: &[u8], i: u64) -> Result<(), LineFault>
     }
 }
 
+// Whether field 2 is the word `sp`.
+fn has_sp(line: &[u8]) -> bool
+    ensures { λ r. ⌜ r ≡ field-is (fields (now (line .entry))) 2 (115 ∷ 112 ∷ []) ⌝ }
+{
+    match field(line, 2) {
+        Some(b"sp") => true,
+        _ => false,
+    }
+}
+
 // `p sp N A`, with a junction table of so many entries.
 pub(crate) fn read_head(line: &[u8], places: u64) -> Result<Head, LineFault>
     ensures { λ r. ⌜ r ≡ passed (p-checks places (fields (now (line .entry)))) (head-in (fields (now (line .entry)))) ⌝ }
 {
-    match field(line, 2) {
-        Some(b"sp") => {}
-        _ => {
-            return Err(LineFault {
-                field: 2,
-                cause: FIELD,
-            });
-        }
+    if !has_sp(line) {
+        return Err(LineFault {
+            field: 2,
+            cause: FIELD,
+        });
     }
     let junctions = number_at(line, 3)?;
     if junctions < 1 || junctions > MOST_JUNCTIONS {

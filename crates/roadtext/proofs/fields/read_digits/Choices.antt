@@ -3,7 +3,7 @@ use Prim.Native.Nat.{_<_, _^_}
 use mathlib.Core.Path.{_≡_}
 use lib.ListN.{drop}
 use Rattle.roadtext.specs.Text.{all-digits, digits-after}
-use Rattle.roadtext.proofs.fields.number.Given as given
+use Rattle.roadtext.proofs.fields.read_digits.Given as given
 
 abbrev pub Inv-loop-b : given.InvT-loop-b
 Inv-loop-b l =
