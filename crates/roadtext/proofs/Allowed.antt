@@ -1,12 +1,12 @@
 -- What the checks of a line show of the road or the move that it adds. Assumes nothing.
-use mathlib.Core.Path.{_≡_, refl, sym, _∙_, ap}
-use mathlib.Core.Bool.{Bool, true, false, not, _&&_}
-use mathlib.Core.List.{List, [], _∷_}
+use mathlib.Core.Path.{_≡_, sym, _∙_, ap}
+use mathlib.Core.Bool.{true, false}
+use mathlib.Core.List.{List}
 use Prim.Native.Nat.{ℕ}
 use lib.Dec.{eqb, ltb}
 use native.Mathlib.Omega.{arith}
 use Rattle.std.specs.declared.result.Result.the-variants.{Ok}
-use Rattle.std.proofs.shelf.Tests.{not-false, eqb-true}
+use Rattle.std.proofs.shelf.Tests.{not-false}
 use Rattle.std.proofs.shelf.Ways.{tells}
 use Rattle.measure.specs.Scale.{Scale}
 use Rattle.drawing.specs.Edits.{within}
@@ -22,10 +22,10 @@ use Rattle.roadtext.proofs.Passed.{each-passes}
 pub move-movable : (fs : List (List ℕ)) (p : Progress) (t : Step) → Begun (p .stage) → Ok t ≡ passed (d-checks (p .junctions) fs) t → Movable p (two-in fs)
 move-movable fs p t b o =
     let all = each-passes (d-checks (p .junctions) fs) t o in
-    record
-    { begun = b
-    ; junction-within = not-false (within 1 (p .junctions) (number-at fs 2)) (all .1 .0)
-    ; district-below = not-false (ltb (number-at fs 3) 64) (all .1 .1 .1 .0)
+    record {
+      begun = b;
+      junction-within = not-false (within 1 (p .junctions) (number-at fs 2)) (all .1 .0);
+      district-below = not-false (ltb (number-at fs 3) 64) (all .1 .1 .1 .0);
     }
 
 -- twins have the same ends, exchanged, and the same value
@@ -37,14 +37,14 @@ pub twin-addable : (s : Scale) (fs : List (List ℕ)) (p : Progress) (a : Arc) (
 twin-addable s fs p a t b o =
     let all = each-passes (twin-checks s p fs a) t o in
     let ends = twin-ends a (arc-in fs) (not-false (is-twin a (arc-in fs)) (all .1 .1 .1 .1 .1 .1 .1 .1 .1 .0)) in
-    record
-    { begun = b
-    ; from-within = sym (ap (within 1 (p .junctions)) (ends .0)) ∙ not-false (within 1 (p .junctions) (number-at fs 3)) (all .1 .1 .1 .1 .0)
-    ; to-within = sym (ap (within 1 (p .junctions)) (ends .1)) ∙ not-false (within 1 (p .junctions) (number-at fs 2)) (all .1 .1 .0)
-    ; apart = rw (← ends .0, ← ends .1) (apart-either-way (number-at fs 2) (number-at fs 3) (all .1 .1 .1 .1 .1 .0))
-    ; worth-lawful = sym (ap (s .lawful) (ends .2)) ∙ not-false (s .lawful (number-at fs 4)) (all .1 .1 .1 .1 .1 .1 .1 .0)
-    ; room-left = all .1 .1 .1 .1 .1 .1 .1 .1 .1 .1 .0
+    record {
+      begun = b;
+      from-within = sym (ap (within 1 (p .junctions)) (ends .0)) ∙ not-false (within 1 (p .junctions) (number-at fs 3)) (all .1 .1 .1 .1 .0);
+      to-within = sym (ap (within 1 (p .junctions)) (ends .1)) ∙ not-false (within 1 (p .junctions) (number-at fs 2)) (all .1 .1 .0);
+      apart = rw (← ends .0, ← ends .1) (apart-either-way (number-at fs 2) (number-at fs 3) (all .1 .1 .1 .1 .1 .0));
+      worth-lawful = sym (ap (s .lawful) (ends .2)) ∙ not-false (s .lawful (number-at fs 4)) (all .1 .1 .1 .1 .1 .1 .1 .0);
+      room-left = all .1 .1 .1 .1 .1 .1 .1 .1 .1 .1 .0;
     }
   where
-  apart-either-way : (x y : ℕ) → eqb x y ≡ false → eqb y x ≡ false
-  apart-either-way x y h = grind (arith, tells)
+    apart-either-way : (x y : ℕ) → eqb x y ≡ false → eqb y x ≡ false
+    apart-either-way x y h = grind (arith, tells)

@@ -51,12 +51,12 @@ module _ (s : Scale) (room : Room) where
   line-stays : (l : ℕ) (fs : List (List ℕ)) (st y : State) → Begun (st .stage) → Ok y ≡ read-line s room l fs st → Stays st y
   line-stays l fs st y h =
       elim (is-comment fs)
-      as (λ b. Ok y ≡ cond b (Ok st) (at-line l (judged s room fs st)) → Stays st y)
-      [ true ↦ λ e. let same : st ≡ y = cc in subst (Stays st) same (h, refl)
-      | false ↦ λ e.
-          at-line-gives l (judged s room fs st) (Stays st) y
-          (passed-gives (line-checks s room st fs (st .stage)) (after-line st fs (st .stage)) (Stays st) (λ _. after-stays st fs (st .stage) h))
-          e
+      as (λ b. Ok y ≡ cond b (Ok st) (at-line l (judged s room fs st)) → Stays st y) [
+        | true ↦ λ e. let same : st ≡ y = cc in subst (Stays st) same (h, refl)
+        | false ↦ λ e.
+            at-line-gives l (judged s room fs st) (Stays st) y
+            (passed-gives (line-checks s room st fs (st .stage)) (after-line st fs (st .stage)) (Stays st) (λ _. after-stays st fs (st .stage) h))
+            e
       ]
 
   -- the end of a text without fault
@@ -71,6 +71,6 @@ module _ (s : Scale) (room : Room) where
   junctions-stay l [] st end h e = ap (λ q. q .junctions) (sym (ended-ok l st end (st .stage) e))
   junctions-stay l (line ∷ ls) st end h e = next (λ y. junctions-stay (l + 1) ls y end) (read-line s room l (fields line) st) refl e
     where
-    next : ((y : State) → Begun (y .stage) → read-lines s room (l + 1) ls y ≡ Ok end → end .junctions ≡ y .junctions) → (r : Result State Fault) → r ≡ read-line s room l (fields line) st → then-lines (read-lines s room (l + 1) ls) r ≡ Ok end → end .junctions ≡ st .junctions
-    next more (Ok y) k e = let there = line-stays l (fields line) st y h k in more y (there .0) e ∙ there .1
-    next more (Err f) k e = absurd (let q : _≡_ {A = ℕ} 0 1 = cc in omega arith)
+      next : ((y : State) → Begun (y .stage) → read-lines s room (l + 1) ls y ≡ Ok end → end .junctions ≡ y .junctions) → (r : Result State Fault) → r ≡ read-line s room l (fields line) st → then-lines (read-lines s room (l + 1) ls) r ≡ Ok end → end .junctions ≡ st .junctions
+      next more (Ok y) k e = let there = line-stays l (fields line) st y h k in more y (there .0) e ∙ there .1
+      next more (Err f) k e = absurd (let q : _≡_ {A = ℕ} 0 1 = cc in omega arith)

@@ -54,19 +54,19 @@ module _ (s : Scale) (fs : List (List ℕ)) (quiet : false ≡ has-letter fs 99)
       → ((p : Progress) → p .stage ≡ g → Ok (T p) ≡ passed (C p) (T p) → Drawable s p ((T p) .event))
       → (p : Progress) (r : Result Step LineFault) → p .stage ≡ g → r ≡ passed (C p) (T p) → Steps s fs p r
   steps-by same kept counted drawn p r at e =
-      record
-      { read =
-          λ room st h l.
+      record {
+        read =
+            λ room st h l.
             at-stage room st l r (ap (λ q. q .stage) h ∙ at)
             (ap (stepped-by st) e
             ∙ stepped-passed st (C p) (T p)
-            ∙ subst (λ q. passed (C q) (stepped st (T q)) ≡ passed (line-checks s room st fs g) (after-line st fs g)) h (same room st))
-      ; keeps =
-          λ room st h.
+            ∙ subst (λ q. passed (C q) (stepped st (T q)) ≡ passed (line-checks s room st fs g) (after-line st fs g)) h (same room st));
+        keeps =
+            λ room st h.
             over p r e (λ t. progress-of room (stepped st t) ≡ t .progress)
-            (λ _. subst (λ q. progress-of room (stepped st (T q)) ≡ (T q) .progress) h (kept room st))
-      ; counts = λ k. over p r e (λ t. Counted (t .progress) (t .progress .stage)) (λ o. counted p o (subst (Counted p) at k))
-      ; draws = over p r e (λ t. Drawable s p (t .event)) (drawn p at)
+            (λ _. subst (λ q. progress-of room (stepped st (T q)) ≡ (T q) .progress) h (kept room st));
+        counts = λ k. over p r e (λ t. Counted (t .progress) (t .progress .stage)) (λ o. counted p o (subst (Counted p) at k));
+        draws = over p r e (λ t. Drawable s p (t .event)) (drawn p at);
       }
 
 module _ (s : Scale) (fs : List (List ℕ)) (quiet : false ≡ has-letter fs 99) (p : Progress) (r : Result Step LineFault) where
@@ -74,9 +74,9 @@ module _ (s : Scale) (fs : List (List ℕ)) (quiet : false ≡ has-letter fs 99)
   head-steps =
       steps-by s fs quiet Head (λ q. letter-check fs 112 ∷ p-checks (q .places) fs) (λ q. head-step q (head-in fs)) (λ _ _. refl) (λ _ _. refl)
       (λ q o _.
-        let all = each-passes (letter-check fs 112 ∷ p-checks (q .places) fs) (head-step q (head-in fs)) o in
-        counted-arcs ((head-step q (head-in fs)) .progress) ((head-in fs) .arcs)
-        (record { in-limits = not-false (within 1 4096 (number-at fs 3)) (all .1 .1 .1 .0); in-table = all .1 .1 .1 .1 .0 }))
+      let all = each-passes (letter-check fs 112 ∷ p-checks (q .places) fs) (head-step q (head-in fs)) o in
+      counted-arcs ((head-step q (head-in fs)) .progress) ((head-in fs) .arcs)
+      (record { in-limits = not-false (within 1 4096 (number-at fs 3)) (all .1 .1 .1 .0); in-table = all .1 .1 .1 .1 .0 }))
       (λ _ _ _. tt)
       p
       r

@@ -1,12 +1,11 @@
 -- A text without fault, drawn line by line: no line is refused, and at the end all of it is drawn. Assumes nothing.
 use mathlib.Core.Path.{_≡_, refl, sym, _∙_, ap, subst}
-use mathlib.Core.Bool.{Bool, true, false, cond}
-use mathlib.Core.List.{List, [], _∷_}
+use mathlib.Core.Bool.{true, false, cond}
+use mathlib.Core.List.{List, []}
 use Prim.Native.Nat.{ℕ, _≤_}
 use native.Mathlib.Omega.{arith}
 use lib.Dec.{ltb}
 use lib.ListN.{length}
-use Rattle.std.specs.declared.result.Result.{Result}
 use Rattle.std.specs.declared.result.Result.the-variants.{Ok, Err}
 use Rattle.std.proofs.shelf.Ways.{tells}
 use Rattle.measure.specs.Scale.{Scale}
@@ -18,10 +17,9 @@ use Rattle.drawing.specs.declared.tables.Junction.{Junction}
 use Rattle.drawing.specs.declared.tables.Road.{Road}
 use Rattle.roadtext.specs.declared.steps.Progress.{Progress}
 use Rattle.roadtext.specs.declared.steps.Step.{Step}
-use Rattle.roadtext.specs.Checked.{room-for}
 use Rattle.roadtext.specs.Drawn.{Draws-event}
 use Rattle.roadtext.specs.Read.{Draws, Adds-all, Moves-all, room-of}
-use Rattle.roadtext.specs.Reading.{State, Room, Fault, fault, nothing-read, read-lines, read-text}
+use Rattle.roadtext.specs.Reading.{State, Room, fault, nothing-read, read-lines, read-text}
 use Rattle.roadtext.specs.Lines.{too-long}
 use Rattle.roadtext.specs.Steps.{Steps, Startable, Begun}
 use Rattle.roadtext.specs.Text.{lines}
@@ -41,13 +39,13 @@ lines-of-text s room text st h =
 pub started-far : (s : Scale) (n : ℕ) (blank : List Junction) (fresh : Rest) (cleared : List Junction) (table : List Road) → Starts-with-no-road s n 64 blank (Ok fresh) cleared → So-far s n fresh cleared table [] [] fresh cleared table
 started-far s n blank fresh cleared table h =
     let done = ends-ok (verdict (start-checks n 64 blank)) fresh (cleared ≡ blank) (λ d. Fresh s n 64 d × (cleared ≡ all-in-district-0 n blank)) h in
-    record
-    { tag-is = done .0 .tag
-    ; junctions-are = done .0 .junctions
-    ; districts-are = done .0 .districts
-    ; roads-are = done .0 .roads
-    ; adds = (refl, refl)
-    ; moved = refl
+    record {
+      tag-is = done .0 .tag;
+      junctions-are = done .0 .junctions;
+      districts-are = done .0 .districts;
+      roads-are = done .0 .roads;
+      adds = (refl, refl);
+      moved = refl;
     }
 
 module _ (s : Scale) (text : List ℕ) (n : ℕ) (blank : List Junction) (unused : List Road) (end : State)
@@ -72,17 +70,18 @@ module _ (s : Scale) (text : List ℕ) (n : ℕ) (blank : List Junction) (unused
       after
       h
     where
-    in-table : (n size : ℕ) → ltb size n ≡ false → n ≤ size
-    in-table n size h = grind (arith, tells)
+      in-table : (n size : ℕ) → ltb size n ≡ false → n ≤ size
+      in-table n size h = grind (arith, tells)
 
   -- at the end all of it is drawn
   pub all-drawn : {l : ℕ} {rest : List ℕ} {st : State} {p : Progress} (fresh : Rest) (cleared : List Junction) (d : Rest) (junctions : List Junction) (table : List Road)
       → Midway s (room-of blank unused) text l rest st p → lines rest ≡ [] → So-far s n fresh cleared unused (st .roads) (st .moves) d junctions table
       → Starts-with-no-road s n 64 blank (Ok fresh) cleared → Draws s end blank unused d junctions table
   all-drawn {l} {rest} {st} {p} fresh cleared d junctions table here no-more far started =
-      let last : st ≡ end = ended-ok s (room-of blank unused) l st end (st .stage) (sym (midway-end here no-more) ∙ lines-of-text s (room-of blank unused) text end good) in
-      ( fresh
-      , cleared
-      , subst (λ k. Starts-with-no-road s k 64 blank (Ok fresh) cleared) (sym count) started
-      , subst (λ q. Adds-all s fresh unused (q .roads) d table) last (far .adds)
-      , subst (λ q. Moves-all d cleared (q .moves) junctions) last (far .moved) )
+      let last : st ≡ end = ended-ok s (room-of blank unused) l st end (st .stage) (sym (midway-end here no-more) ∙ lines-of-text s (room-of blank unused) text end good) in (
+        fresh,
+        cleared,
+        subst (λ k. Starts-with-no-road s k 64 blank (Ok fresh) cleared) (sym count) started,
+        subst (λ q. Adds-all s fresh unused (q .roads) d table) last (far .adds),
+        subst (λ q. Moves-all d cleared (q .moves) junctions) last (far .moved),
+      )

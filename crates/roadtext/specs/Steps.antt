@@ -21,7 +21,7 @@ use Rattle.roadtext.specs.declared.steps.Event.the-variants.{Nothing, Road, Mo
 use Rattle.roadtext.specs.declared.steps.Progress.{Progress}
 use Rattle.roadtext.specs.declared.steps.Step.{Step}
 use Rattle.roadtext.specs.Lines.{Check, check, no-twin, arc-in, a-checks}
-use Rattle.roadtext.specs.Reading.{State, Room, Fault, at-line, read-line, arcs-to-come, letter-check, is-twin}
+use Rattle.roadtext.specs.Reading.{State, Room, at-line, read-line, arcs-to-come, letter-check, is-twin}
 
 -- how far a reader has come that has read this
 abbrev pub progress-of : Room → State → Progress
@@ -50,12 +50,12 @@ with-ask (Ask q) asks = asks ++ (q ∷ [])
 -- what has been read after a step
 abbrev pub stepped : State → Step → State
 stepped st t =
-    record
-    { stage = t .progress .stage
-    ; junctions = t .progress .junctions
-    ; roads = with-road (t .event) (st .roads)
-    ; moves = with-move (t .event) (st .moves)
-    ; asks = with-ask (t .event) (st .asks)
+    record {
+      stage = t .progress .stage;
+      junctions = t .progress .junctions;
+      roads = with-road (t .event) (st .roads);
+      moves = with-move (t .event) (st .moves);
+      asks = with-ask (t .event) (st .asks);
     }
 
 abbrev pub stepped-by : State → Result Step LineFault → Result State LineFault

@@ -4,10 +4,10 @@ use super::checking::begin;
 use super::lines::cut_line;
 use super::steps::Event;
 use drawing::Junction;
+use drawing::MOST_DISTRICTS;
 use drawing::Refusal;
 use drawing::Rest;
 use drawing::Road;
-use drawing::MOST_DISTRICTS;
 use measure::Measure;
 
 // Draws what one line adds.

@@ -7,13 +7,13 @@ ghost use Rattle.roadtext.specs.Reading.{has-letter, letter-check, is-twin, ar
 ghost use Rattle.roadtext.specs.Steps.{Steps, moved-to, head-step, arc-step, road-checks, twin-checks, twin-step};
 ghost use Rattle.roadtext.specs.declared.parts.Stage.the-variants.{Tail, Asks};
 ghost use Rattle.roadtext.specs.declared.steps.Event.the-variants.{Move, Ask};
+use super::line::LETTER;
+use super::line::TWIN;
 use super::line::letter;
 use super::line::read_arc;
 use super::line::read_ask;
 use super::line::read_head;
 use super::line::read_move;
-use super::line::LETTER;
-use super::line::TWIN;
 use super::parts::Arc;
 use super::parts::Head;
 use super::parts::LineFault;

@@ -6,11 +6,12 @@ use Rattle.roadtext.proofs.Midway.{midway-checked}
 use Rattle.roadtext.proofs.checking.check.Needs as need
 
 pub loop-line-holds : need.loop-line-holds
-loop-line-holds g c =
-    ( nothing-read
-    , record { came = sym (c .begin-progress .ensures); left = refl }
-    , subst (λ p. Counted p (p .stage)) (sym (c .begin-progress .ensures)) tt
-    , omega arith )
+loop-line-holds g c = (
+  nothing-read,
+  record { came = sym (c .begin-progress .ensures); left = refl },
+  subst (λ p. Counted p (p .stage)) (sym (c .begin-progress .ensures)) tt,
+  omega arith,
+)
 
 pub loop-line-again : need.loop-line-again
 loop-line-again g c =

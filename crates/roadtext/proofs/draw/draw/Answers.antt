@@ -1,4 +1,4 @@
-use mathlib.Core.Path.{_≡_, refl, sym, subst}
+use mathlib.Core.Path.{refl, sym, subst}
 use Prim.Native.Nat.{_+_}
 use borrow.Author.Needs.{needs}
 use Rattle.roadtext.specs.Checked.{room-for}
@@ -10,11 +10,12 @@ use Rattle.roadtext.proofs.Whole.{started-far, line-accepted, all-drawn}
 use Rattle.roadtext.proofs.draw.draw.Needs as need
 
 pub loop-line-holds : need.loop-line-holds
-loop-line-holds g c =
-    ( nothing-read
-    , 1
-    , subst (λ q. Midway (g .M·Measure .scale) (room-for (q .places) (q .records)) (c .args .text .now) 1 (c .args .text .now) nothing-read q) (sym (c .begin-progress .ensures)) (record { came = refl; left = refl })
-    , started-far (g .M·Measure .scale) (c .args .count) (c .args .junctions .now) (c .in-Continue-drawing .drawing) (c .start .last .junctions) (c .args .roads .now) (c .in-Continue-drawing .ensures tt) )
+loop-line-holds g c = (
+  nothing-read,
+  1,
+  subst (λ q. Midway (g .M·Measure .scale) (room-for (q .places) (q .records)) (c .args .text .now) 1 (c .args .text .now) nothing-read q) (sym (c .begin-progress .ensures)) (record { came = refl; left = refl }),
+  started-far (g .M·Measure .scale) (c .args .count) (c .args .junctions .now) (c .in-Continue-drawing .drawing) (c .start .last .junctions) (c .args .roads .now) (c .in-Continue-drawing .ensures tt),
+)
 
 pub returns-in-Break-draw-event : need.returns-in-Break-draw-event
 returns-in-Break-draw-event g c st good count can =
@@ -28,13 +29,14 @@ returns-in-Break-draw-event g c st good count can =
 
 pub loop-line-again : need.loop-line-again
 loop-line-again g c =
-    let inv = c .loop-line .inv in
-    ( stepped (inv .0) (c .in-Ok .step)
-    , inv .1 + 1
-    , midway-next (inv .2) (c .in-Ok .step) (c .in-Some .ensures tt) (c .in-Ok .ensures tt)
-    , event-far (g .M·Measure .scale) (c .args .count) (c .in-Continue-drawing .drawing) (c .start .last .junctions) (c .args .roads .now) (inv .0 .roads) (inv .0 .moves)
-      (c .loop-line .drawing) (c .loop-line .junctions) (c .loop-line .roads) (inv .3)
-      (c .in-Ok .step .event) (c .draw-event .last .drawing) (c .draw-event .last .junctions) (c .draw-event .last .roads) (c .in-Continue-draw-event .ensures tt) )
+    let inv = c .loop-line .inv in (
+      stepped (inv .0) (c .in-Ok .step),
+      inv .1 + 1,
+      midway-next {room = room-for (c .begin-progress .result .places) (c .begin-progress .result .records)} (inv .2) (c .in-Ok .step) (c .in-Some .ensures tt) (c .in-Ok .ensures tt),
+      event-far (g .M·Measure .scale) (c .args .count) (c .in-Continue-drawing .drawing) (c .start .last .junctions) (c .args .roads .now) (inv .0 .roads) (inv .0 .moves)
+          (c .loop-line .drawing) (c .loop-line .junctions) (c .loop-line .roads) (inv .3)
+          (c .in-Ok .step .event) (c .draw-event .last .drawing) (c .draw-event .last .junctions) (c .draw-event .last .roads) (c .in-Continue-draw-event .ensures tt),
+    )
 
 pub returns : need.returns
 returns g c st good count can =
