@@ -1,18 +1,18 @@
 -- What has been drawn so far, one event more, and that none is refused. Assumes nothing.
 use mathlib.Core.Path.{_≡_, refl, sym, _∙_, ap, subst}
-use mathlib.Core.Bool.{Bool, true, false, cond, not, _||_}
+use mathlib.Core.Bool.{false, cond, not, _||_}
 use mathlib.Core.List.{List, [], _∷_, _++_}
 use Prim.Native.Nat.{ℕ, _+_, _≤_}
 use native.Mathlib.Omega.{arith}
 use borrow.Author.Tests.{eq-eqb}
-use lib.Dec.{eqb, leb, ltb}
+use lib.Dec.{leb, ltb}
 use lib.ListN.{length, set, length-append}
 use Rattle.std.specs.declared.result.Result.{Result}
 use Rattle.std.specs.declared.result.Result.the-variants.{Ok, Err}
 use Rattle.std.specs.shelf.Lists.{All}
 use Rattle.std.proofs.shelf.Ways.{tells}
 use Rattle.measure.specs.Scale.{Scale}
-use Rattle.drawing.specs.Outcomes.{Check, refuse, verdict, Ends}
+use Rattle.drawing.specs.Outcomes.{Check, verdict, Ends}
 use Rattle.drawing.specs.Edits.{within, Appends-an-open-road, Moves-one-junction, One-road-more, add-checks, assign-checks, with-entry, in-district, open-road}
 use Rattle.drawing.specs.declared.refusal.Refusal.{Refusal}
 use Rattle.drawing.specs.declared.rest.Rest.{Rest}
@@ -23,9 +23,9 @@ use Rattle.roadtext.specs.declared.parts.Two.{Two}
 use Rattle.roadtext.specs.declared.steps.Event.{Event}
 use Rattle.roadtext.specs.declared.steps.Event.the-variants.{Nothing, Road as RoadRead, Move, Ask}
 use Rattle.roadtext.specs.declared.steps.Progress.{Progress}
-use Rattle.roadtext.specs.Drawn.{Leaves, Adds-one, Draws-event}
+use Rattle.roadtext.specs.Drawn.{Leaves, Draws-event}
 use Rattle.roadtext.specs.Read.{Adds-all, Moves-all}
-use Rattle.roadtext.specs.Steps.{Begun, Addable, Movable, Drawable, with-road, with-move}
+use Rattle.roadtext.specs.Steps.{Begun, Drawable, with-road, with-move}
 
 -- a call that answers has done what it says
 pub ends-ok : {A : Type 0} (v : Result Unit Refusal) (a : A) (same : Type 0) (done : A → Type 0) → Ends v (Ok a) same done → done a

@@ -1,20 +1,15 @@
 -- Midway through a text: what has been read, what is left, and what one more line brings. Assumes nothing.
-use mathlib.Core.Path.{_≡_, refl, sym, _∙_, ap, subst}
-use mathlib.Core.List.{List, [], _∷_}
+use mathlib.Core.Path.{_≡_, sym, _∙_, ap, subst}
+use mathlib.Core.List.{List, []}
 use Prim.Native.Nat.{ℕ, _+_}
-use Rattle.std.specs.declared.result.Result.{Result}
-use Rattle.std.specs.declared.result.Result.the-variants.{Ok, Err}
-use Rattle.std.specs.Vec.{made}
+use Rattle.std.specs.declared.result.Result.the-variants.{Ok}
 use Rattle.measure.specs.Scale.{Scale}
-use Rattle.roadtext.specs.declared.parts.LineFault.{LineFault}
-use Rattle.roadtext.specs.declared.parts.Stage.{Stage}
-use Rattle.roadtext.specs.declared.parts.Stage.the-variants.{Head, Arc as ArcAwaited, Twin, Tail, Asks}
 use Rattle.roadtext.specs.declared.steps.Progress.{Progress}
 use Rattle.roadtext.specs.declared.steps.Step.{Step}
 use Rattle.roadtext.specs.Text.{lines, fields, Cut-line}
-use Rattle.roadtext.specs.Reading.{State, Room, Fault, fault, at-line, read-line, then-lines, read-lines, nothing-read, ended}
-use Rattle.roadtext.specs.Checked.{junctions-read, ended-at}
-use Rattle.roadtext.specs.Steps.{Steps, progress-of, stepped, Startable, Counted}
+use Rattle.roadtext.specs.Reading.{State, Room, read-line, then-lines, read-lines, nothing-read, ended}
+use Rattle.roadtext.specs.Checked.{Reads-line}
+use Rattle.roadtext.specs.Steps.{Steps, progress-of, stepped, Counted}
 
 -- st has been read, which has come as far as p; reading the rest, from line number l on, is reading the text
 pub record Midway (s : Scale) (room : Room) (text : List ℕ) (l : ℕ) (rest : List ℕ) (st : State) (p : Progress) : Type 0 where
@@ -33,24 +28,16 @@ module _ {s : Scale} {room : Room} {text : List ℕ} {l : ℕ} {rest : List ℕ}
         left = sym (ap (then-lines (read-lines s room (l + 1) (lines more))) (steps .read room st (here .came) l)) ∙ first-line cut;
       }
 
-  pub midway-fault : {line more : List ℕ} (f : LineFault) → Cut-line rest line more → Steps s (fields line) p (Err f) → read-lines s room 1 (lines text) nothing-read ≡ Err (fault l (f .field) (f .cause))
-  midway-fault {line} {more} f cut steps =
-      sym (first-line cut) ∙ ap (then-lines (read-lines s room (l + 1) (lines more))) (steps .read room st (here .came) l)
+  -- the same, as checking goes on
+  pub midway-checked : {line more : List ℕ} (q : Progress × ℕ) → Cut-line rest line more → Reads-line s (fields line) p l (Ok q) → Counted p (p .stage)
+      → (there : State) × Midway s room text (q .1) more there (q .0) × Counted (q .0) (q .0 .stage)
+  midway-checked {line} {more} q cut read counted =
+      let t = read .0 in (
+        stepped st t,
+        subst (λ k. Midway s room text k more (stepped st t) (q .0)) (sym (read .3))
+            (subst (λ v. Midway s room text (l + 1) more (stepped st t) v) (sym (read .2)) (midway-next t cut (read .1))),
+        subst (λ v. Counted v (v .stage)) (sym (read .2)) (read .1 .counts counted),
+      )
 
   pub midway-end : lines rest ≡ [] → read-lines s room 1 (lines text) nothing-read ≡ ended l st (st .stage)
   midway-end e = sym (here .left) ∙ ap (λ ls. read-lines s room l ls st) e
-
--- the end of what has been read, by its junctions and its stage alone
-pub ended-read : (l : ℕ) (st : State) (g : Stage) → junctions-read (ended l st g) ≡ ended-at l (st .junctions) g
-ended-read l st Head = refl
-ended-read l st (ArcAwaited k) = refl
-ended-read l st (Twin a k) = refl
-ended-read l st Tail = refl
-ended-read l st Asks = refl
-
-pub ended-counted : (l : ℕ) (p : Progress) (g : Stage) → Counted p g → made (ended-at l (p .junctions) g) (λ n. Startable (p .places) n)
-ended-counted l p Head h = tt
-ended-counted l p (ArcAwaited k) h = tt
-ended-counted l p (Twin a k) h = tt
-ended-counted l p Tail h = h
-ended-counted l p Asks h = h

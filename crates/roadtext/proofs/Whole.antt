@@ -1,12 +1,11 @@
 -- A text without fault, drawn line by line: no line is refused, and at the end all of it is drawn. Assumes nothing.
 use mathlib.Core.Path.{_≡_, refl, sym, _∙_, ap, subst}
-use mathlib.Core.Bool.{Bool, true, false, cond}
-use mathlib.Core.List.{List, [], _∷_}
+use mathlib.Core.Bool.{true, false, cond}
+use mathlib.Core.List.{List, []}
 use Prim.Native.Nat.{ℕ, _≤_}
 use native.Mathlib.Omega.{arith}
 use lib.Dec.{ltb}
 use lib.ListN.{length}
-use Rattle.std.specs.declared.result.Result.{Result}
 use Rattle.std.specs.declared.result.Result.the-variants.{Ok, Err}
 use Rattle.std.proofs.shelf.Ways.{tells}
 use Rattle.measure.specs.Scale.{Scale}
@@ -18,10 +17,9 @@ use Rattle.drawing.specs.declared.tables.Junction.{Junction}
 use Rattle.drawing.specs.declared.tables.Road.{Road}
 use Rattle.roadtext.specs.declared.steps.Progress.{Progress}
 use Rattle.roadtext.specs.declared.steps.Step.{Step}
-use Rattle.roadtext.specs.Checked.{room-for}
 use Rattle.roadtext.specs.Drawn.{Draws-event}
 use Rattle.roadtext.specs.Read.{Draws, Adds-all, Moves-all, room-of}
-use Rattle.roadtext.specs.Reading.{State, Room, Fault, fault, nothing-read, read-lines, read-text}
+use Rattle.roadtext.specs.Reading.{State, Room, fault, nothing-read, read-lines, read-text}
 use Rattle.roadtext.specs.Lines.{too-long}
 use Rattle.roadtext.specs.Steps.{Steps, Startable, Begun}
 use Rattle.roadtext.specs.Text.{lines}

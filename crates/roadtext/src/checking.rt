@@ -1,9 +1,11 @@
 // Checking a text: every line is looked at, and nothing is drawn.
 ghost use mathlib.Core.Path.{_≡_};
 ghost use Rattle.std.specs.Vec.{made};
-ghost use Rattle.roadtext.specs.Checked.{room-for, junctions-read, refused-at, ended-at};
+ghost use Prim.Native.Nat.{_^_, _<_};
+ghost use Rattle.roadtext.specs.Checked.{room-for, junctions-read, refused-at, ended-at, Reads-line};
 ghost use Rattle.roadtext.specs.Reading.{nothing-read, read-text};
 ghost use Rattle.roadtext.specs.Steps.{progress-of, Startable};
+ghost use Rattle.roadtext.specs.Text.{fields};
 use super::line::LETTER;
 use super::lines::cut_line;
 use super::parts::LineFault;
@@ -42,6 +44,21 @@ fn refused_at(number: u64, fault: LineFault) -> Refusal
     }
 }
 
+// Reads the line of this number: how far that brings the reading, and the number of the next line.
+fn read_line<M: Measure>(
+    progress: &Progress,
+    line: &[u8],
+    number: u64,
+) -> Result<(Progress, u64), Refusal>
+    requires { ⌜ number < 2 ^ 32 ⌝ }
+    ensures { λ r. ⌜ Reads-line (M·Measure .scale) (fields (now (line .entry))) (now (progress .entry)) number r ⌝ }
+{
+    match progress.step::<M>(line) {
+        Ok(step) => Ok((step.progress, number + 1)),
+        Err(fault) => Err(refused_at(number, fault)),
+    }
+}
+
 // The end of a text, where this is the number of the line after the last.
 fn ended(progress: &Progress, number: u64) -> Result<u64, Refusal>
     ensures { λ r. ⌜ r ≡ ended-at number (now (progress .entry) .junctions) (now (progress .entry) .stage) ⌝ }
@@ -72,11 +89,7 @@ pub fn check<M: Measure>(text: &[u8], places: u64, records: u64) -> Result<u64, 
     let mut rest = text;
     let mut number: u64 = 1;
     while let Some((line, more)) = cut_line(rest) {
-        match progress.step::<M>(line) {
-            Ok(step) => progress = step.progress,
-            Err(fault) => return Err(refused_at(number, fault)),
-        }
-        number += 1;
+        (progress, number) = read_line::<M>(&progress, line, number)?;
         rest = more;
     }
     ended(&progress, number)

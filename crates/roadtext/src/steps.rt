@@ -1,12 +1,10 @@
 // One line of a text: what it adds to what has been read.
-ghost use mathlib.Core.Bool.{_||_};
 ghost use mathlib.Core.Path.{_≡_};
 ghost use mathlib.Core.List.{[], _∷_};
-ghost use lib.Dec.{leb};
 ghost use Rattle.roadtext.specs.Text.{fields};
-ghost use Rattle.roadtext.specs.Lines.{check, p-checks, a-checks, d-checks, q-checks, passed, head-in, arc-in, two-in};
+ghost use Rattle.roadtext.specs.Lines.{p-checks, a-checks, d-checks, q-checks, passed, head-in, arc-in, two-in};
 ghost use Rattle.roadtext.specs.Reading.{has-letter, letter-check, is-twin, arcs-to-come};
-ghost use Rattle.roadtext.specs.Steps.{Steps, moved-to, head-step, arc-step, twin-checks, twin-step};
+ghost use Rattle.roadtext.specs.Steps.{Steps, moved-to, head-step, arc-step, road-checks, twin-checks, twin-step};
 ghost use Rattle.roadtext.specs.declared.parts.Stage.the-variants.{Tail, Asks};
 ghost use Rattle.roadtext.specs.declared.steps.Event.the-variants.{Move, Ask};
 use super::line::LETTER;
@@ -102,10 +100,16 @@ impl Progress {
         }
     }
 
-    // There is room for one road more.
-    fn check_room(&self) -> Result<(), LineFault>
-        ensures { λ r. ⌜ r ≡ passed (check 1 8 (leb 16384 (now (self .entry) .roads) || leb (now (self .entry) .records) (now (self .entry) .roads)) ∷ []) tt ⌝ }
+    // The second arc is the twin of the first, and there is room for one road more.
+    fn check_twin(&self, first: Arc, second: Arc) -> Result<(), LineFault>
+        ensures { λ r. ⌜ r ≡ passed (road-checks (now (self .entry)) first second) tt ⌝ }
     {
+        if !is_twin(first, second) {
+            return Err(LineFault {
+                field: 1,
+                cause: TWIN,
+            });
+        }
         if self.roads >= MOST_ROADS || self.roads >= self.records {
             return Err(LineFault { field: 1, cause: 8 });
         }
@@ -151,13 +155,7 @@ impl Progress {
     {
         await_letter(line, 'a')?;
         let second = read_arc::<M>(line, self.junctions)?;
-        if !is_twin(first, second) {
-            return Err(LineFault {
-                field: 1,
-                cause: TWIN,
-            });
-        }
-        self.check_room()?;
+        self.check_twin(first, second)?;
         let stage = arcs_to_come(left);
         Ok(Step {
             progress: Progress {

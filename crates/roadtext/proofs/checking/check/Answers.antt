@@ -1,8 +1,8 @@
 use mathlib.Core.Path.{refl, sym, subst}
 use native.Mathlib.Omega.{arith}
 use Rattle.roadtext.specs.Reading.{nothing-read}
-use Rattle.roadtext.specs.Steps.{stepped, Counted}
-use Rattle.roadtext.proofs.Midway.{midway-next}
+use Rattle.roadtext.specs.Steps.{Counted}
+use Rattle.roadtext.proofs.Midway.{midway-checked}
 use Rattle.roadtext.proofs.checking.check.Needs as need
 
 pub loop-line-holds : need.loop-line-holds
@@ -17,9 +17,15 @@ pub loop-line-again : need.loop-line-again
 loop-line-again g c =
     let inv = c .loop-line .inv in
     let cut = c .in-Some .ensures tt in
+<<<<<<< HEAD
     let steps = c .in-Ok .ensures tt in (
       stepped (inv .0) (c .in-Ok .step),
       midway-next (inv .1) (c .in-Ok .step) cut steps,
       steps .counts (inv .2),
       omega (arith, inv .3, cut .shorter),
     )
+=======
+    let read = c .in-Continue-progress .ensures tt in
+    let there = midway-checked (inv .1) _ cut read (inv .2) in
+    (there .0, there .1, there .2, omega (arith, inv .3, cut .shorter, read .3))
+>>>>>>> 0cb660c
