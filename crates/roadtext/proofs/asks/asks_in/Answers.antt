@@ -23,11 +23,6 @@ loop-line-again g c =
     let inv = c .loop-line .inv in (
       stepped (inv .0) (c .in-Ok .step),
       inv .1 + 1,
-<<<<<<< HEAD
-      midway-next (inv .2) (c .in-Ok .step) (c .in-Some .ensures tt) (c .in-Ok .ensures tt),
-      c .in-Continue-keep .ensures tt ∙ ap (with-ask (c .in-Ok .step .event)) (inv .3),
-=======
       midway-next {room = room-for (c .args .places) (c .args .records)} (inv .2) (c .in-Ok .step) (c .in-Some .ensures tt) (c .in-Ok .ensures tt),
       kept (c .in-Ok .step .event) (vec-items (c .keep .last .asks)) (vec-items (c .loop-line .asks)) (inv .0 .asks) (inv .3) (c .in-Continue-keep .ensures tt),
->>>>>>> 0cb660c
     )

@@ -17,15 +17,6 @@ pub loop-line-again : need.loop-line-again
 loop-line-again g c =
     let inv = c .loop-line .inv in
     let cut = c .in-Some .ensures tt in
-<<<<<<< HEAD
-    let steps = c .in-Ok .ensures tt in (
-      stepped (inv .0) (c .in-Ok .step),
-      midway-next (inv .1) (c .in-Ok .step) cut steps,
-      steps .counts (inv .2),
-      omega (arith, inv .3, cut .shorter),
-    )
-=======
     let read = c .in-Continue-progress .ensures tt in
     let there = midway-checked (inv .1) _ cut read (inv .2) in
     (there .0, there .1, there .2, omega (arith, inv .3, cut .shorter, read .3))
->>>>>>> 0cb660c

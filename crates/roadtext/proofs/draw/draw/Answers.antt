@@ -32,11 +32,7 @@ loop-line-again g c =
     let inv = c .loop-line .inv in (
       stepped (inv .0) (c .in-Ok .step),
       inv .1 + 1,
-<<<<<<< HEAD
-      midway-next (inv .2) (c .in-Ok .step) (c .in-Some .ensures tt) (c .in-Ok .ensures tt),
-=======
       midway-next {room = room-for (c .begin-progress .result .places) (c .begin-progress .result .records)} (inv .2) (c .in-Ok .step) (c .in-Some .ensures tt) (c .in-Ok .ensures tt),
->>>>>>> 0cb660c
       event-far (g .M·Measure .scale) (c .args .count) (c .in-Continue-drawing .drawing) (c .start .last .junctions) (c .args .roads .now) (inv .0 .roads) (inv .0 .moves)
           (c .loop-line .drawing) (c .loop-line .junctions) (c .loop-line .roads) (inv .3)
           (c .in-Ok .step .event) (c .draw-event .last .drawing) (c .draw-event .last .junctions) (c .draw-event .last .roads) (c .in-Continue-draw-event .ensures tt),
