@@ -10,4 +10,6 @@ mod measures;
 #[cfg(test)]
 mod rules;
 #[cfg(test)]
+mod six;
+#[cfg(test)]
 mod texts;
