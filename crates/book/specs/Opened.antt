@@ -69,7 +69,7 @@ Hands-out-the-row s names b v r =
     (ws : List ℕ) → Is-book s ws → Shows ws b
     → Ends (verdict (refuse NoJunction (not (within 1 (word ws 2) v)) ∷ [])) r (Unit {0}) (λ part. part .now ≡ row-words ws names v)
 
--- the words of two rows, each with its entries whole, its hubs ascending and its values other than none
+-- words that are a row: whole entries, hubs that ascend, values other than none
 pub record Is-row (s : Scale) (ws : List ℕ) : Type 0 where
   pub whole : ws ≡ entry-words (entries ws)
   pub ascends : Ascends (entries ws)

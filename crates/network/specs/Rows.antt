@@ -8,7 +8,7 @@ use Rattle.std.specs.shelf.Lists.{kept-by}
 use Rattle.measure.specs.Scale.{Scale}
 use Rattle.network.specs.Lists.{count-up}
 use Rattle.network.specs.Walks.{Arc, arc, best-within}
-use Rattle.network.specs.Networks.{Network, district, arcs, best, is-border, borders}
+use Rattle.network.specs.Networks.{Network, district, arcs, best, borders}
 use Rattle.network.specs.Labels.{Entry, row}
 
 -- the border row of v under a border order: its hubs are the borders, named by their rank in the order, from 0

@@ -1,6 +1,6 @@
 -- What is proved of walks, best values and rows, for every measure s. Assumes nothing.
 use mathlib.Core.Path.{_≡_}
-use mathlib.Core.Bool.{Bool, true}
+use mathlib.Core.Bool.{true}
 use mathlib.Core.List.{List}
 use mathlib.Core.Logic.{_⊎_}
 use Prim.Native.Nat.{ℕ, _≤_, _<_}
@@ -11,7 +11,7 @@ use Rattle.std.specs.shelf.Lists.{All}
 use Rattle.measure.specs.Scale.{Scale, Value, NoWorse}
 use Rattle.network.specs.Lists.{In}
 use Rattle.network.specs.Walks.{Arc, Walk, walk-value, Walked, BestOf, Best}
-use Rattle.network.specs.Networks.{Network, Junction, Sound, district, arcs, best, is-border, Border-order}
+use Rattle.network.specs.Networks.{Network, Junction, Sound, district, arcs, best, is-border}
 use Rattle.network.specs.Labels.{Entry, cell, value-at, meet, struck, Ascends}
 use Rattle.network.specs.Rows.{border-row, inner-arcs, district-arcs, district-best, members, district-row}
 

@@ -1,7 +1,7 @@
 -- The rules worked out on a network of six junctions, as a list of cases. Assumes nothing.
 use mathlib.Core.Path.{_≡_}
-use mathlib.Core.Bool.{Bool, true}
-use mathlib.Core.List.{List, [], _∷_, map}
+use mathlib.Core.Bool.{true}
+use mathlib.Core.List.{List, [], _∷_}
 use Prim.Native.Nat.{ℕ}
 use Rattle.measure.specs.Measures.{metres}
 use Rattle.network.specs.Walks.{arc}

@@ -1,12 +1,9 @@
 -- What a text means: which line may stand where, what has been read after each line, and the first fault. Assumes nothing.
-use mathlib.Core.Path.{_≡_}
-use mathlib.Core.Bool.{Bool, true, false, cond, not, _&&_, _||_}
+use mathlib.Core.Bool.{Bool, false, cond, not, _&&_, _||_}
 use mathlib.Core.List.{List, [], _∷_, _++_}
 use Prim.Native.Nat.{ℕ, _+_, _-_}
 use lib.Dec.{eqb, leb, ltb}
 use lib.ListN.{length}
-use Rattle.std.specs.declared.option.Option.{Option}
-use Rattle.std.specs.declared.option.Option.the-variants.{Some, None}
 use Rattle.std.specs.declared.result.Result.{Result}
 use Rattle.std.specs.declared.result.Result.the-variants.{Ok, Err}
 use Rattle.std.specs.Options.{isSome, valueOr}
@@ -17,7 +14,7 @@ use Rattle.roadtext.specs.declared.parts.Two.{Two}
 use Rattle.roadtext.specs.declared.parts.Stage.{Stage}
 use Rattle.roadtext.specs.declared.parts.Stage.the-variants.{Head, Arc as ArcAwaited, Twin, Tail, Asks}
 use Rattle.roadtext.specs.Text.{lines, fields, letter-of}
-use Rattle.roadtext.specs.Lines.{Check, check, passed, letter-out-of-place, no-twin, too-long, number-at, head-in, arc-in, two-in, p-checks, a-checks, d-checks, q-checks}
+use Rattle.roadtext.specs.Lines.{Check, check, passed, letter-out-of-place, no-twin, too-long, head-in, arc-in, two-in, p-checks, a-checks, d-checks, q-checks}
 
 -- what has been read so far
 pub record State : Type 0 where
