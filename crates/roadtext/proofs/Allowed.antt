@@ -36,14 +36,14 @@ twin-ends a b h = (grind (arith, tells), grind (arith, tells), grind (arith, tel
 pub twin-addable : (s : Scale) (fs : List (List ℕ)) (p : Progress) (a : Arc) (t : Step) → Begun (p .stage) → Ok t ≡ passed (twin-checks s p fs a) t → Addable s p a
 twin-addable s fs p a t b o =
     let all = each-passes (twin-checks s p fs a) t o in
-    let ends = twin-ends a (arc-in fs) (not-false (is-twin a (arc-in fs)) (all .1 .1 .1 .1 .1 .1 .1 .1 .1 .0)) in
+    let ends = twin-ends a (arc-in fs) (not-false (is-twin a (arc-in fs)) (all .1 .1 .1 .1 .1 .1 .1 .1 .0)) in
     record {
       begun = b;
-      from-within = sym (ap (within 1 (p .junctions)) (ends .0)) ∙ not-false (within 1 (p .junctions) (number-at fs 3)) (all .1 .1 .1 .1 .0);
-      to-within = sym (ap (within 1 (p .junctions)) (ends .1)) ∙ not-false (within 1 (p .junctions) (number-at fs 2)) (all .1 .1 .0);
-      apart = rw (← ends .0, ← ends .1) (apart-either-way (number-at fs 2) (number-at fs 3) (all .1 .1 .1 .1 .1 .0));
-      worth-lawful = sym (ap (s .lawful) (ends .2)) ∙ not-false (s .lawful (number-at fs 4)) (all .1 .1 .1 .1 .1 .1 .1 .0);
-      room-left = all .1 .1 .1 .1 .1 .1 .1 .1 .1 .1 .0;
+      from-within = sym (ap (within 1 (p .junctions)) (ends .0)) ∙ not-false (within 1 (p .junctions) (number-at fs 3)) (all .1 .1 .1 .0);
+      to-within = sym (ap (within 1 (p .junctions)) (ends .1)) ∙ not-false (within 1 (p .junctions) (number-at fs 2)) (all .1 .0);
+      apart = rw (← ends .0, ← ends .1) (apart-either-way (number-at fs 2) (number-at fs 3) (all .1 .1 .1 .1 .0));
+      worth-lawful = sym (ap (s .lawful) (ends .2)) ∙ not-false (s .lawful (number-at fs 4)) (all .1 .1 .1 .1 .1 .1 .0);
+      room-left = all .1 .1 .1 .1 .1 .1 .1 .1 .1 .0;
     }
   where
     apart-either-way : (x y : ℕ) → eqb x y ≡ false → eqb y x ≡ false

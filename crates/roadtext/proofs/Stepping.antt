@@ -18,10 +18,14 @@ use Rattle.roadtext.specs.declared.parts.Stage.the-variants.{Head, Arc as ArcA
 use Rattle.roadtext.specs.declared.steps.Event.the-variants.{Move, Ask}
 use Rattle.roadtext.specs.declared.steps.Progress.{Progress}
 use Rattle.roadtext.specs.declared.steps.Step.{Step}
+use Rattle.roadtext.specs.declared.parts.Kind.the-variants.{Head as OfHead, Arc as OfArc, Move as OfMove, Ask as OfAsk}
+use Rattle.roadtext.specs.Text.{letter-of}
+use Rattle.roadtext.specs.Kinds.{kind-of}
 use Rattle.roadtext.specs.Lines.{Check, passed, p-checks, a-checks, d-checks, q-checks, head-in, arc-in, two-in, number-at}
 use Rattle.roadtext.specs.Reading.{State, Room, at-line, read-line, line-checks, after-line, has-letter, letter-check, arcs-to-come}
 use Rattle.roadtext.specs.Steps.{Steps, progress-of, stepped, stepped-by, moved-to, head-step, arc-step, twin-checks, twin-step, Startable, Begun, Counted, Drawable}
 use Rattle.roadtext.proofs.Passed.{passed-gives, each-passes}
+use Rattle.roadtext.proofs.Letters.{told, in-place}
 use Rattle.roadtext.proofs.Allowed.{twin-addable, move-movable}
 
 -- a step after checks is what is read after them
@@ -69,44 +73,51 @@ module _ (s : Scale) (fs : List (List ℕ)) (quiet : false ≡ has-letter fs 99)
         draws = over p r e (λ t. Drawable s p (t .event)) (drawn p at);
       }
 
-module _ (s : Scale) (fs : List (List ℕ)) (quiet : false ≡ has-letter fs 99) (p : Progress) (r : Result Step LineFault) where
-  pub head-steps : p .stage ≡ Head → r ≡ passed (letter-check fs 112 ∷ p-checks (p .places) fs) (head-step p (head-in fs)) → Steps s fs p r
-  head-steps =
-      steps-by s fs quiet Head (λ q. letter-check fs 112 ∷ p-checks (q .places) fs) (λ q. head-step q (head-in fs)) (λ _ _. refl) (λ _ _. refl)
+module _ (s : Scale) (fs : List (List ℕ)) (p : Progress) (r : Result Step LineFault) where
+  pub head-steps : OfHead ≡ kind-of (letter-of fs) → p .stage ≡ Head → r ≡ passed (p-checks (p .places) fs) (head-step p (head-in fs)) → Steps s fs p r
+  head-steps k =
+      steps-by s fs (sym (told fs OfHead k .comment)) Head (λ q. p-checks (q .places) fs) (λ q. head-step q (head-in fs))
+      (λ room st. in-place fs 112 (p-checks (room .places) fs) (stepped st (head-step (progress-of room st) (head-in fs))) (told fs OfHead k .head))
+      (λ _ _. refl)
       (λ q o _.
-      let all = each-passes (letter-check fs 112 ∷ p-checks (q .places) fs) (head-step q (head-in fs)) o in
+      let all = each-passes (p-checks (q .places) fs) (head-step q (head-in fs)) o in
       counted-arcs ((head-step q (head-in fs)) .progress) ((head-in fs) .arcs)
-      (record { in-limits = not-false (within 1 4096 (number-at fs 3)) (all .1 .1 .1 .0); in-table = all .1 .1 .1 .1 .0 }))
+      (record { in-limits = not-false (within 1 4096 (number-at fs 3)) (all .1 .1 .0); in-table = all .1 .1 .1 .0 }))
       (λ _ _ _. tt)
       p
       r
 
-  pub arc-steps : (left : ℕ) → p .stage ≡ ArcAwaited left → r ≡ passed (letter-check fs 97 ∷ a-checks s (p .junctions) fs) (arc-step p left (arc-in fs)) → Steps s fs p r
-  arc-steps left =
-      steps-by s fs quiet (ArcAwaited left) (λ q. letter-check fs 97 ∷ a-checks s (q .junctions) fs) (λ q. arc-step q left (arc-in fs)) (λ _ _. refl) (λ _ _. refl)
+  pub arc-steps : (left : ℕ) → OfArc ≡ kind-of (letter-of fs) → p .stage ≡ ArcAwaited left → r ≡ passed (a-checks s (p .junctions) fs) (arc-step p left (arc-in fs)) → Steps s fs p r
+  arc-steps left k =
+      steps-by s fs (sym (told fs OfArc k .comment)) (ArcAwaited left) (λ q. a-checks s (q .junctions) fs) (λ q. arc-step q left (arc-in fs))
+      (λ room st. in-place fs 97 (a-checks s (st .junctions) fs) (stepped st (arc-step (progress-of room st) left (arc-in fs))) (told fs OfArc k .arc))
+      (λ _ _. refl)
       (λ _ _ h. h)
       (λ _ _ _. tt)
       p
       r
 
-  pub twin-steps : (a : Arc) (left : ℕ) → p .stage ≡ Twin a left → r ≡ passed (twin-checks s p fs a) (twin-step p a left) → Steps s fs p r
-  twin-steps a left =
-      steps-by s fs quiet (Twin a left) (λ q. twin-checks s q fs a) (λ q. twin-step q a left) (λ _ _. refl)
+  pub twin-steps : (a : Arc) (left : ℕ) → OfArc ≡ kind-of (letter-of fs) → p .stage ≡ Twin a left → r ≡ passed (twin-checks s p fs a) (twin-step p a left) → Steps s fs p r
+  twin-steps a left k =
+      steps-by s fs (sym (told fs OfArc k .comment)) (Twin a left) (λ q. twin-checks s q fs a) (λ q. twin-step q a left)
+      (λ room st. in-place fs 97 (twin-checks s (progress-of room st) fs a) (stepped st (twin-step (progress-of room st) a left)) (told fs OfArc k .arc))
       (λ room st. ap (λ n. record { places = room .places; records = room .records; stage = arcs-to-come left; junctions = st .junctions; roads = n }) (length-append (st .roads) (a ∷ [])))
       (λ q _ h. counted-arcs ((twin-step q a left) .progress) left h)
       (λ q at o. twin-addable s fs q a (twin-step q a left) (subst Begun (sym at) tt) o)
       p
       r
 
-  pub asks-step : p .stage ≡ Asks → r ≡ passed (letter-check fs 113 ∷ q-checks (p .junctions) fs) (moved-to p Asks (Ask (two-in fs))) → Steps s fs p r
-  asks-step =
-      steps-by s fs quiet Asks (λ q. letter-check fs 113 ∷ q-checks (q .junctions) fs) (λ q. moved-to q Asks (Ask (two-in fs))) (λ _ _. refl) (λ _ _. refl)
+  pub asks-step : OfAsk ≡ kind-of (letter-of fs) → p .stage ≡ Asks → r ≡ passed (q-checks (p .junctions) fs) (moved-to p Asks (Ask (two-in fs))) → Steps s fs p r
+  asks-step k =
+      steps-by s fs (sym (told fs OfAsk k .comment)) Asks (λ q. q-checks (q .junctions) fs) (λ q. moved-to q Asks (Ask (two-in fs)))
+      (λ room st. in-place fs 113 (q-checks (st .junctions) fs) (stepped st (moved-to (progress-of room st) Asks (Ask (two-in fs)))) (told fs OfAsk k .ask))
+      (λ _ _. refl)
       (λ _ _ h. h)
       (λ _ _ _. tt)
       p
       r
 
-  -- a `d` line or the first `q` line, by its letter
+  -- a `d` line or another, by its letter
   tail-at : (room : Room) (st : State) (b : Bool) → b ≡ has-letter fs 100
       → passed (cond b (d-checks (st .junctions) fs) (letter-check fs 113 ∷ q-checks (st .junctions) fs)) (cond b (stepped st (moved-to (progress-of room st) Tail (Move (two-in fs)))) (stepped st (moved-to (progress-of room st) Asks (Ask (two-in fs)))))
       ≡ passed (line-checks s room st fs Tail) (after-line st fs Tail)
@@ -114,20 +125,22 @@ module _ (s : Scale) (fs : List (List ℕ)) (quiet : false ≡ has-letter fs 99)
       ap (λ v. passed (cond v (d-checks (st .junctions) fs) (letter-check fs 113 ∷ q-checks (st .junctions) fs)) (cond v (stepped st (moved-to (progress-of room st) Tail (Move (two-in fs)))) (stepped st (moved-to (progress-of room st) Asks (Ask (two-in fs)))))) e
 
   -- the first `q` line
-  pub tail-asks : false ≡ has-letter fs 100 → p .stage ≡ Tail → r ≡ passed (letter-check fs 113 ∷ q-checks (p .junctions) fs) (moved-to p Asks (Ask (two-in fs))) → Steps s fs p r
-  tail-asks other =
-      steps-by s fs quiet Tail (λ q. letter-check fs 113 ∷ q-checks (q .junctions) fs) (λ q. moved-to q Asks (Ask (two-in fs)))
-      (λ room st. tail-at room st false other)
+  pub tail-asks : OfAsk ≡ kind-of (letter-of fs) → p .stage ≡ Tail → r ≡ passed (q-checks (p .junctions) fs) (moved-to p Asks (Ask (two-in fs))) → Steps s fs p r
+  tail-asks k =
+      steps-by s fs (sym (told fs OfAsk k .comment)) Tail (λ q. q-checks (q .junctions) fs) (λ q. moved-to q Asks (Ask (two-in fs)))
+      (λ room st.
+      in-place fs 113 (q-checks (st .junctions) fs) (stepped st (moved-to (progress-of room st) Asks (Ask (two-in fs)))) (told fs OfAsk k .ask)
+      ∙ tail-at room st false (sym (told fs OfAsk k .move)))
       (λ _ _. refl)
       (λ _ _ h. h)
       (λ _ _ _. tt)
       p
       r
 
-  pub tail-moves : true ≡ has-letter fs 100 → p .stage ≡ Tail → r ≡ passed (d-checks (p .junctions) fs) (moved-to p Tail (Move (two-in fs))) → Steps s fs p r
-  tail-moves so =
-      steps-by s fs quiet Tail (λ q. d-checks (q .junctions) fs) (λ q. moved-to q Tail (Move (two-in fs)))
-      (λ room st. tail-at room st true so)
+  pub tail-moves : OfMove ≡ kind-of (letter-of fs) → p .stage ≡ Tail → r ≡ passed (d-checks (p .junctions) fs) (moved-to p Tail (Move (two-in fs))) → Steps s fs p r
+  tail-moves k =
+      steps-by s fs (sym (told fs OfMove k .comment)) Tail (λ q. d-checks (q .junctions) fs) (λ q. moved-to q Tail (Move (two-in fs)))
+      (λ room st. tail-at room st true (sym (told fs OfMove k .move)))
       (λ _ _. refl)
       (λ _ _ h. h)
       (λ q at o. move-movable fs q (moved-to q Tail (Move (two-in fs))) (subst Begun (sym at) tt) o)

@@ -1,4 +1,5 @@
 pub mod Text
+pub mod Kinds
 pub mod Lines
 pub mod Reading
 pub mod Read

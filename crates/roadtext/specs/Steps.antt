@@ -21,7 +21,7 @@ use Rattle.roadtext.specs.declared.steps.Event.the-variants.{Nothing, Road, Mo
 use Rattle.roadtext.specs.declared.steps.Progress.{Progress}
 use Rattle.roadtext.specs.declared.steps.Step.{Step}
 use Rattle.roadtext.specs.Lines.{Check, check, no-twin, arc-in, a-checks}
-use Rattle.roadtext.specs.Reading.{State, Room, at-line, read-line, arcs-to-come, letter-check, is-twin}
+use Rattle.roadtext.specs.Reading.{State, Room, at-line, read-line, arcs-to-come, is-twin}
 
 -- how far a reader has come that has read this
 abbrev pub progress-of : Room → State → Progress
@@ -130,9 +130,9 @@ abbrev pub road-checks : Progress → Arc → Arc → List Check
 road-checks p a b =
     check 1 no-twin (not (is-twin a b)) ∷ check 1 8 (leb 16384 (p .roads) || leb (p .records) (p .roads)) ∷ []
 
--- the checks of the twin of an arc
+-- the checks of the twin of an arc, after its letter
 abbrev pub twin-checks : Scale → Progress → List (List ℕ) → Arc → List Check
-twin-checks s p fs a = letter-check fs 97 ∷ (a-checks s (p .junctions) fs ++ road-checks p a (arc-in fs))
+twin-checks s p fs a = a-checks s (p .junctions) fs ++ road-checks p a (arc-in fs)
 
 abbrev pub twin-step : Progress → Arc → ℕ → Step
 twin-step p a left =

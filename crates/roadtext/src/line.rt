@@ -4,12 +4,14 @@ ghost use Prim.Native.Nat.{_^_, _<_};
 ghost use mathlib.Core.List.{[], _∷_};
 ghost use lib.Dec.{eqb};
 ghost use Rattle.roadtext.specs.Text.{fields, letter-of};
+ghost use Rattle.roadtext.specs.Kinds.{kind-of};
 ghost use Rattle.roadtext.specs.Lines.{check, bad-field, no-number, number-at, field-is, junction-checks, end-check, p-checks, a-checks, d-checks, q-checks, passed};
 ghost use Rattle.roadtext.specs.Lines.{head-in, arc-in, two-in};
 use super::fields::field;
 use super::fields::number;
 use super::parts::Arc;
 use super::parts::Head;
+use super::parts::Kind;
 use super::parts::LineFault;
 use super::parts::Two;
 use drawing::MOST_DISTRICTS;
@@ -30,6 +32,20 @@ pub(crate) fn letter(line: &[u8]) -> Option<char>
     match field(line, 1) {
         Some([b]) => Some(char::from(*b)),
         _ => None,
+    }
+}
+
+// What a line is by its letter.
+pub(crate) fn kind(line: &[u8]) -> Kind
+    ensures { λ r. ⌜ r ≡ kind-of (letter-of (fields (now (line .entry)))) ⌝ }
+{
+    match letter(line) {
+        Some('c') => Kind::Comment,
+        Some('p') => Kind::Head,
+        Some('a') => Kind::Arc,
+        Some('d') => Kind::Move,
+        Some('q') => Kind::Ask,
+        _ => Kind::Other,
     }
 }
 

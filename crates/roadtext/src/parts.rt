@@ -39,3 +39,14 @@ pub enum Stage {
     Tail,
     Asks,
 }
+
+// What a line is by its letter.
+#[derive(Clone, Copy)]
+pub enum Kind {
+    Comment,
+    Head,
+    Arc,
+    Move,
+    Ask,
+    Other,
+}

@@ -1,21 +1,21 @@
 // One line of a text: what it adds to what has been read.
 ghost use mathlib.Core.Path.{_≡_};
-ghost use mathlib.Core.List.{[], _∷_};
 ghost use Rattle.roadtext.specs.Text.{fields};
 ghost use Rattle.roadtext.specs.Lines.{p-checks, a-checks, d-checks, q-checks, passed, head-in, arc-in, two-in};
-ghost use Rattle.roadtext.specs.Reading.{has-letter, letter-check, is-twin, arcs-to-come};
+ghost use Rattle.roadtext.specs.Reading.{is-twin, arcs-to-come};
 ghost use Rattle.roadtext.specs.Steps.{Steps, moved-to, head-step, arc-step, road-checks, twin-checks, twin-step};
 ghost use Rattle.roadtext.specs.declared.parts.Stage.the-variants.{Tail, Asks};
 ghost use Rattle.roadtext.specs.declared.steps.Event.the-variants.{Move, Ask};
 use super::line::LETTER;
 use super::line::TWIN;
-use super::line::letter;
+use super::line::kind;
 use super::line::read_arc;
 use super::line::read_ask;
 use super::line::read_head;
 use super::line::read_move;
 use super::parts::Arc;
 use super::parts::Head;
+use super::parts::Kind;
 use super::parts::LineFault;
 use super::parts::Stage;
 use super::parts::Two;
@@ -46,29 +46,6 @@ pub(crate) enum Event {
 pub(crate) struct Step {
     pub(crate) progress: Progress,
     pub(crate) event: Event,
-}
-
-// The letter of the line is this.
-fn has_letter(line: &[u8], awaited: char) -> bool
-    ensures { λ r. ⌜ r ≡ has-letter (fields (now (line .entry))) awaited ⌝ }
-{
-    match letter(line) {
-        Some(c) => c == awaited,
-        None => false,
-    }
-}
-
-// The line has the letter awaited.
-fn await_letter(line: &[u8], awaited: char) -> Result<(), LineFault>
-    ensures { λ r. ⌜ r ≡ passed (letter-check (fields (now (line .entry))) awaited ∷ []) tt ⌝ }
-{
-    if has_letter(line, awaited) {
-        return Ok(());
-    }
-    Err(LineFault {
-        field: 1,
-        cause: LETTER,
-    })
 }
 
 // What is awaited when so many arc lines are to come.
@@ -133,18 +110,16 @@ impl Progress {
 
     // The `p` line.
     fn head(&self, line: &[u8]) -> Result<Step, LineFault>
-        ensures { λ r. ⌜ r ≡ passed (letter-check (fields (now (line .entry))) 112 ∷ p-checks (now (self .entry) .places) (fields (now (line .entry)))) (head-step (now (self .entry)) (head-in (fields (now (line .entry))))) ⌝ }
+        ensures { λ r. ⌜ r ≡ passed (p-checks (now (self .entry) .places) (fields (now (line .entry)))) (head-step (now (self .entry)) (head-in (fields (now (line .entry))))) ⌝ }
     {
-        await_letter(line, 'p')?;
         let head = read_head(line, self.places)?;
         Ok(self.headed(head))
     }
 
     // The first arc of a road, while so many arcs are to come.
     fn arc<M: Measure>(&self, line: &[u8], left: u64) -> Result<Step, LineFault>
-        ensures { λ r. ⌜ r ≡ passed (letter-check (fields (now (line .entry))) 97 ∷ a-checks (M·Measure .scale) (now (self .entry) .junctions) (fields (now (line .entry)))) (arc-step (now (self .entry)) left (arc-in (fields (now (line .entry))))) ⌝ }
+        ensures { λ r. ⌜ r ≡ passed (a-checks (M·Measure .scale) (now (self .entry) .junctions) (fields (now (line .entry)))) (arc-step (now (self .entry)) left (arc-in (fields (now (line .entry))))) ⌝ }
     {
-        await_letter(line, 'a')?;
         let arc = read_arc::<M>(line, self.junctions)?;
         Ok(self.moved_to(Stage::Twin(arc, left.saturating_sub(2)), Event::Nothing))
     }
@@ -153,7 +128,6 @@ impl Progress {
     fn twin<M: Measure>(&self, line: &[u8], first: Arc, left: u64) -> Result<Step, LineFault>
         ensures { λ r. ⌜ r ≡ passed (twin-checks (M·Measure .scale) (now (self .entry)) (fields (now (line .entry))) first) (twin-step (now (self .entry)) first left) ⌝ }
     {
-        await_letter(line, 'a')?;
         let second = read_arc::<M>(line, self.junctions)?;
         self.check_twin(first, second)?;
         let stage = arcs_to_come(left);
@@ -169,9 +143,8 @@ impl Progress {
 
     // A `q` line.
     fn ask(&self, line: &[u8]) -> Result<Step, LineFault>
-        ensures { λ r. ⌜ r ≡ passed (letter-check (fields (now (line .entry))) 113 ∷ q-checks (now (self .entry) .junctions) (fields (now (line .entry)))) (moved-to (now (self .entry)) Asks (Ask (two-in (fields (now (line .entry)))))) ⌝ }
+        ensures { λ r. ⌜ r ≡ passed (q-checks (now (self .entry) .junctions) (fields (now (line .entry)))) (moved-to (now (self .entry)) Asks (Ask (two-in (fields (now (line .entry)))))) ⌝ }
     {
-        await_letter(line, 'q')?;
         let two = read_ask(line, self.junctions)?;
         Ok(self.moved_to(Stage::Asks, Event::Ask(two)))
     }
@@ -188,21 +161,18 @@ impl Progress {
     pub(crate) fn step<M: Measure>(&self, line: &[u8]) -> Result<Step, LineFault>
         ensures { λ r. ⌜ Steps (M·Measure .scale) (fields (now (line .entry))) (now (self .entry)) r ⌝ }
     {
-        if has_letter(line, 'c') {
-            return Ok(self.moved_to(self.stage, Event::Nothing));
-        }
-        match self.stage {
-            Stage::Head => self.head(line),
-            Stage::Arc(left) => self.arc::<M>(line, left),
-            Stage::Twin(first, left) => self.twin::<M>(line, first, left),
-            Stage::Tail => {
-                if has_letter(line, 'd') {
-                    self.move_line(line)
-                } else {
-                    self.ask(line)
-                }
-            }
-            Stage::Asks => self.ask(line),
+        match (kind(line), self.stage) {
+            (Kind::Comment, _) => Ok(self.moved_to(self.stage, Event::Nothing)),
+            (Kind::Head, Stage::Head) => self.head(line),
+            (Kind::Arc, Stage::Arc(left)) => self.arc::<M>(line, left),
+            (Kind::Arc, Stage::Twin(first, left)) => self.twin::<M>(line, first, left),
+            (Kind::Move, Stage::Tail) => self.move_line(line),
+            (Kind::Ask, Stage::Tail) => self.ask(line),
+            (Kind::Ask, Stage::Asks) => self.ask(line),
+            _ => Err(LineFault {
+                field: 1,
+                cause: LETTER,
+            }),
         }
     }
 }

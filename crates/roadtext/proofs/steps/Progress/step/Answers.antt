@@ -2,26 +2,26 @@ use Rattle.roadtext.specs.Text.{fields}
 use Rattle.roadtext.proofs.Stepping.{head-steps, arc-steps, twin-steps, asks-step, tail-asks, tail-moves}
 use Rattle.roadtext.proofs.steps.Progress.step.Needs as need
 
-pub returns-in-Head : need.returns-in-Head
-returns-in-Head g c =
-    head-steps (g .M·Measure .scale) (fields (c .args .line .now)) (c .if-has-letter .ensures tt) (c .args .self .now) (c .head .result) (c .in-Head .is) (c .head .ensures)
+pub returns-in-Head-Head : need.returns-in-Head-Head
+returns-in-Head-Head g c =
+    head-steps (g .M·Measure .scale) (fields (c .args .line .now)) (c .args .self .now) (c .head .result) (c .in-Head-Head .ensures tt) (c .in-Head-Head .is-1) (c .head .ensures)
 
-pub returns-in-Arc : need.returns-in-Arc
-returns-in-Arc g c =
-    arc-steps (g .M·Measure .scale) (fields (c .args .line .now)) (c .if-has-letter .ensures tt) (c .args .self .now) (c .arc .result) (c .in-Arc .left) (c .in-Arc .is) (c .arc .ensures)
+pub returns-in-Arc-Arc : need.returns-in-Arc-Arc
+returns-in-Arc-Arc g c =
+    arc-steps (g .M·Measure .scale) (fields (c .args .line .now)) (c .args .self .now) (c .arc .result) (c .in-Arc-Arc .left) (c .in-Arc-Arc .ensures tt) (c .in-Arc-Arc .is-1) (c .arc .ensures)
 
-pub returns-in-Twin : need.returns-in-Twin
-returns-in-Twin g c =
-    twin-steps (g .M·Measure .scale) (fields (c .args .line .now)) (c .if-has-letter .ensures tt) (c .args .self .now) (c .twin .result) (c .in-Twin .first) (c .in-Twin .left) (c .in-Twin .is) (c .twin .ensures)
+pub returns-in-Arc-Twin : need.returns-in-Arc-Twin
+returns-in-Arc-Twin g c =
+    twin-steps (g .M·Measure .scale) (fields (c .args .line .now)) (c .args .self .now) (c .twin .result) (c .in-Arc-Twin .first) (c .in-Arc-Twin .left) (c .in-Arc-Twin .ensures tt) (c .in-Arc-Twin .is-1) (c .twin .ensures)
 
-pub returns-then-has-letter-2 : need.returns-then-has-letter-2
-returns-then-has-letter-2 g c =
-    tail-moves (g .M·Measure .scale) (fields (c .args .line .now)) (c .if-has-letter .ensures tt) (c .args .self .now) (c .move-line .result) (c .if-has-letter-2 .ensures tt) (c .in-Tail .is) (c .move-line .ensures)
+pub returns-in-Move-Tail : need.returns-in-Move-Tail
+returns-in-Move-Tail g c =
+    tail-moves (g .M·Measure .scale) (fields (c .args .line .now)) (c .args .self .now) (c .move-line .result) (c .in-Move-Tail .ensures tt) (c .in-Move-Tail .is-1) (c .move-line .ensures)
 
-pub returns-else-has-letter-2 : need.returns-else-has-letter-2
-returns-else-has-letter-2 g c =
-    tail-asks (g .M·Measure .scale) (fields (c .args .line .now)) (c .if-has-letter .ensures tt) (c .args .self .now) (c .ask .result) (c .if-has-letter-2 .ensures tt) (c .in-Tail .is) (c .ask .ensures)
+pub returns-in-Ask-Tail : need.returns-in-Ask-Tail
+returns-in-Ask-Tail g c =
+    tail-asks (g .M·Measure .scale) (fields (c .args .line .now)) (c .args .self .now) (c .ask .result) (c .in-Ask-Tail .ensures tt) (c .in-Ask-Tail .is-1) (c .ask .ensures)
 
-pub returns-in-Asks : need.returns-in-Asks
-returns-in-Asks g c =
-    asks-step (g .M·Measure .scale) (fields (c .args .line .now)) (c .if-has-letter .ensures tt) (c .args .self .now) (c .ask-in-Asks .result) (c .in-Asks .is) (c .ask-in-Asks .ensures)
+pub returns-in-Ask-Asks : need.returns-in-Ask-Asks
+returns-in-Ask-Asks g c =
+    asks-step (g .M·Measure .scale) (fields (c .args .line .now)) (c .args .self .now) (c .ask-in-Ask-Asks .result) (c .in-Ask-Asks .ensures tt) (c .in-Ask-Asks .is-1) (c .ask-in-Ask-Asks .ensures)
