@@ -91,7 +91,8 @@ pub record Every-entry-is-needed (s : Scale) (net : Network) (order : List ℕ) 
       → Falls-short s (best s net (e .hub) v) (meet s (struck (e .hub) (district-row s net v)) (district-row s net (e .hub)))
 
 -- The cell of v under hub number i can be told from entries alone: the best value from the hub b to v is not none, and each
--- earlier hub that has an entry in both rows, b's and v's, gives worse. `rows` has the row of each junction, and `name` the name of the hub of each rank.
+-- earlier hub that has an entry in both rows, b's and v's, gives worse. `rows` has the row of each junction, and
+-- `name` the name of the hub of each rank.
 pub record Told-by-entries (s : Scale) (d : ℕ → ℕ → ℕ) (rows : ℕ → List Entry) (name : ℕ → ℕ) (i b v : ℕ) : Type 0 where
   pub reached : d b v ≡ s .none → ⊥
   pub earlier-are-worse :
