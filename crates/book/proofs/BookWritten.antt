@@ -33,7 +33,7 @@ use Rattle.book.proofs.RowsInWords.{Rows-lie, no-offset-is-bad, row-is-shown}
 use Rattle.book.proofs.GoodEntries.{Good-row, no-entry-is-bad}
 use Rattle.book.proofs.BookLimits.{order-has-junctions, order-is-no-longer, as-many-rows-as-junctions, row-by-number, border-entries-are-few, district-entries-are-few}
 use Rattle.book.proofs.Parts.{nothing-is-bad}
-use Rattle.book.proofs.Limits.{is-within}
+use Rattle.drawing.proofs.Within.{is-within}
 use Rattle.book.proofs.NothingBad.{no-count-is-bad, no-district-is-bad, no-border-is-bad}
 use Rattle.book.proofs.BookLaidOut.{Laid-out, book-size-is, words-are-laid-out}
 

@@ -14,7 +14,7 @@ use Rattle.book.specs.Layout.{word, words-in, order-at, after}
 use Rattle.book.specs.Bad.{among, bad-border}
 use Rattle.book.specs.Found.{Marks}
 use Rattle.book.specs.Ready.{Ready}
-use Rattle.book.proofs.Limits.{between}
+use Rattle.drawing.proofs.Within.{between}
 use Rattle.book.proofs.SectionWords.{section-length, section-word}
 
 -- one element further

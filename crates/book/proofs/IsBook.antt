@@ -20,7 +20,7 @@ use Rattle.book.specs.Opened.{Is-book, open-checks}
 use Rattle.book.specs.Ready.{Ready, Good-offsets}
 use Rattle.book.specs.declared.names.Names.{Names}
 use Rattle.book.specs.declared.names.Names.the-variants.{Ranks, Hubs}
-use Rattle.book.proofs.Limits.{between}
+use Rattle.drawing.proofs.Within.{between}
 use Rattle.book.proofs.Parts.{Good-part, parts-are-good}
 
 -- where checks come to no refusal, the first does not fail, nor do the others

@@ -12,7 +12,6 @@ pub mod GoodEntries
 pub mod IsBook
 pub mod KeptOffers
 pub mod LaidEndToEnd
-pub mod Limits
 pub mod Merge
 pub mod NothingBad
 pub mod Parts

@@ -16,7 +16,7 @@ use Rattle.book.specs.Layout.{word, places-at, order-at, words-in, total}
 use Rattle.book.specs.Bad.{among, count-faults, bad-count, bad-district, bad-border}
 use Rattle.book.specs.Ready.{Ready}
 use Rattle.book.specs.declared.counts.Counts.{Counts}
-use Rattle.book.proofs.Limits.{is-within}
+use Rattle.drawing.proofs.Within.{is-within}
 use Rattle.book.proofs.SectionWords.{word-of-section}
 
 pub no-count-is-bad : (ws : List ℕ) (c : Counts) → Ready ws c → 1 ≤ c .districts → (i : ℕ) → i < 8 → bad-count c i ≡ false

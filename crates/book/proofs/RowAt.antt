@@ -23,7 +23,7 @@ use Rattle.book.specs.declared.opened.Book.{Book}
 use Rattle.book.specs.declared.span.Span.{Span}
 use Rattle.book.proofs.IsBook.{ready, good-offsets}
 use Rattle.book.proofs.RowsOfEntries.{next-offset, offset-within}
-use Rattle.book.proofs.Limits.{is-within}
+use Rattle.drawing.proofs.Within.{is-within}
 
 -- what was handed out of words that are all there is the part that the span says
 part-is-there :

@@ -21,7 +21,7 @@ use Rattle.book.specs.declared.counts.Counts.{Counts}
 use Rattle.book.specs.declared.opened.Book.{Book}
 use Rattle.book.specs.declared.span.Span.{Span}
 use Rattle.book.proofs.IsBook.{ready}
-use Rattle.book.proofs.Limits.{is-within}
+use Rattle.drawing.proofs.Within.{is-within}
 use Rattle.book.proofs.SectionWords.{section-word}
 
 -- the border of a rank that there is

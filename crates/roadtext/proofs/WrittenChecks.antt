@@ -16,7 +16,7 @@ use Rattle.roadtext.specs.Lines.{p-checks, a-checks, d-checks, q-checks, arc-i
 use Rattle.roadtext.specs.Reading.{is-twin}
 use Rattle.roadtext.specs.FirstFault.{All-pass}
 use Rattle.roadtext.specs.Written.{Junction-of, Writable-road}
-use Rattle.roadtext.proofs.WrittenNumbers.{within-from}
+use Rattle.drawing.proofs.Within as limits
 
 -- the field writes the number
 abbrev pub Writes : List ℕ → ℕ → Type 0
@@ -47,7 +47,7 @@ module _ (f : List ℕ) (x : ℕ) (e : Writes f x) where
   its-value = ap (λ o. valueOr o 0) e
 
   is-within : (low high : ℕ) → (low ≤ x) × (x ≤ high) → not (within low high (valueOr (number f) 0)) ≡ false
-  is-within low high (h, k) = ap (λ y. not (within low high y)) its-value ∙ ap not (within-from low high x h k)
+  is-within low high (h, k) = ap (λ y. not (within low high y)) its-value ∙ ap not (limits.is-within low high x h k)
 
 pub head-passes :
     (places : ℕ) (f g : List ℕ) (n a : ℕ) → Writes f n → Writes g a → Junction-of 4096 n → n ≤ places → a % 2 ≡ 0

@@ -2,7 +2,7 @@
 use mathlib.Core.Path.{_≡_, ap, _∙_}
 use mathlib.Core.Bool.{true, _&&_}
 use mathlib.Core.List.{List, [], _∷_, map}
-use Prim.Native.Nat.{ℕ, _^_, _<_, _≤_}
+use Prim.Native.Nat.{ℕ, _^_, _<_}
 use native.Mathlib.Omega.{arith}
 use borrow.Author.Needs.{needs}
 use lib.ListN.{length}
@@ -11,16 +11,14 @@ use Rattle.std.specs.shelf.Lists.{All}
 use Rattle.std.specs.Written.{decimal}
 use Rattle.std.proofs.shelf.Decimals.{length-decimal-le, decimal-some, digits-decimal, value-decimal}
 use Rattle.std.proofs.shelf.Numerals.{Numerals, numerals-by-fold}
-use Rattle.std.proofs.shelf.Tests.{and-from, and-parts, cond-true, leb-true, le-leb}
+use Rattle.std.proofs.shelf.Tests.{and-from, and-parts, cond-true, leb-true}
 use Rattle.drawing.specs.Edits.{within}
+use Rattle.drawing.proofs.Within.{is-within}
 use Rattle.roadtext.specs.Text.{all-digits, digits-after, number}
 use Rattle.roadtext.specs.Written.{Lacks}
 
 pub own : Numerals (λ ds. all-digits ds ≡ true) (digits-after 0)
 own = numerals-by-fold _ (search needs) digits-after (search needs)
-
-pub within-from : (low high n : ℕ) → low ≤ n → n ≤ high → within low high n ≡ true
-within-from low high n h k = and-from _ _ (le-leb low n h) (le-leb n high k)
 
 module _ (n : ℕ) (small : n < 10 ^ 10) where
   pub decimal-has-digits : all-digits (decimal n) ≡ true
@@ -30,7 +28,7 @@ module _ (n : ℕ) (small : n < 10 ^ 10) where
   number-decimal =
       cond-true (within 1 10 (length (decimal n)) && all-digits (decimal n)) (Some (digits-after 0 (decimal n))) None
       (and-from _ _
-      (within-from 1 10 (length (decimal n)) (decimal-some n (omega arith)) (length-decimal-le 10 n (omega arith) small (omega arith)))
+      (is-within 1 10 (length (decimal n)) (decimal-some n (omega arith)) (length-decimal-le 10 n (omega arith) small (omega arith)))
       decimal-has-digits)
       ∙ ap Some (value-decimal own n (omega arith))
 
