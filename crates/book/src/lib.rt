@@ -1,4 +1,6 @@
 // The words of a book, opening it, its rows, and the join of two rows.
+#![tactic(auto)]
+
 mod counts;
 mod cursor;
 mod entries;

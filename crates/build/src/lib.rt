@@ -1,4 +1,6 @@
 // The build: a drawing becomes a book in steps.
+#![tactic(auto)]
+
 mod checks;
 mod columns;
 mod labelling;

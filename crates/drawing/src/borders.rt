@@ -87,9 +87,9 @@ fn mark_ends(drawing: &Rest, junctions: &[Junction], road: &Road, marks: &mut [b
 
 // Marks every junction that is a border.
 fn mark_borders(drawing: &Rest, junctions: &[Junction], roads: &[Road], marks: &mut [bool])
-    requires junctions_in_bounds { drawing.now.junctions ≤ length junctions.now }
-    requires roads_in_bounds { drawing.now.roads ≤ length roads.now }
-    requires by_index { (v : ℕ) → slice_index_or marks.old v false ≡ false }
+    requires enough_junctions { drawing.now.junctions ≤ length junctions.now }
+    requires enough_roads { drawing.now.roads ≤ length roads.now }
+    requires unmarked { (v : ℕ) → slice_index_or marks.old v false ≡ false }
     ensures { (v : ℕ) → v < length marks.new → slice_index_or marks.new v false ≡ is_border (network_of drawing.now junctions.now roads.now) v }
 {
     for i in 0..drawing.roads as usize {
@@ -114,8 +114,8 @@ fn count(marks: &[bool], n: u64) -> u64
 
 // Writes those of the junctions 1 to n that are marked to the front of a list.
 fn list_marked(marks: &[bool], n: u64, list: &mut [u64])
-    requires n_in_bounds { n < length marks.now }
-    requires n_in_bounds_2 { length (filter (λ v. get_or marks.now v false) (count_up 1 n)) ≤ length list.old }
+    requires below_length { n < length marks.now }
+    requires room { length (filter (λ v. get_or marks.now v false) (count_up 1 n)) ≤ length list.old }
     ensures { list.new ≡ filter (λ v. get_or marks.now v false) (count_up 1 n) ++ drop (length (filter (λ v. get_or marks.now v false) (count_up 1 n))) list.old }
 {
     let mut found: usize = 0;

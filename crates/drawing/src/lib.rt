@@ -1,4 +1,6 @@
 // The network as it is edited: a drawing at rest, the tables that each call is lent, the edits, and every refusal.
+#![tactic(auto)]
+
 mod borders;
 mod edits;
 mod refusal;

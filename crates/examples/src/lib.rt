@@ -1,4 +1,6 @@
 // Examples of what the libraries do, as tests.
+#![tactic(auto)]
+
 #[cfg(test)]
 mod books;
 #[cfg(test)]

@@ -1,4 +1,6 @@
 // What a measure of roads is, the laws that every measure keeps, and the two measures: metres and clearance.
+#![tactic(auto)]
+
 ghost use Rattle.std.specs.Prelude.{◌≡◌};
 ghost use Rattle.measure.specs.Scale.{Scale, Laws, counts};
 ghost use Rattle.measure.specs.Measures.{metres, clearance, TagsDiffer};

@@ -1,4 +1,6 @@
 // Walks, best values, borders and rows, and why two short rows answer every pair. Each theorem is a function that does nothing.
+#![tactic(auto)]
+
 ghost use Rattle.std.specs.Prelude.{ℕ, List};
 ghost use Rattle.network.specs.Networks.{Network, Sound, borders, BorderOrder};
 ghost use Rattle.network.specs.Theorems.{Allowed, BestIsWellDefined, BorderRowsAnswer, DistrictRowsAnswer, OffersGiveBest};

@@ -1,4 +1,6 @@
 // Reads a road text from standard input, and says what network it describes.
+#![tactic(auto)]
+
 use anyhow::anyhow;
 use drawing::{Junction, Mark, Refusal, Road};
 use measure::Metres;

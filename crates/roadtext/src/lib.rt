@@ -1,4 +1,6 @@
 // Road text: networks in the form of the Ninth DIMACS Challenge.
+#![tactic(auto)]
+
 mod answer;
 mod asks;
 mod checking;

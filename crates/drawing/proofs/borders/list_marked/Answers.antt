@@ -7,15 +7,15 @@ pub bounds-list-found : goal.bounds-list-found
 bounds-list-found c =
     let below =
     passed_is_below (λ v. get_or c.args.marks.now v false) c.loop-i.i c.args.n c.loop-i-test.true c.if-marks-i.true in
-    omega (arith, below, c.loop-i.invariant.0, c.requires.1)
+    omega (arith, below, c.loop-i.invariant.0, c.requires.room)
 
-pub offset-bounds-list-found : goal.offset-bounds-list-found
-offset-bounds-list-found c =
+pub offset_bounds-list-found : goal.offset_bounds-list-found
+offset_bounds-list-found c =
     let below : c.loop-i.found < length c.loop-i.list = bounds-list-found c in
     search rules
 
-pub overflow-add-found : goal.overflow-add-found
-overflow-add-found c =
+pub overflow_add-found : goal.overflow_add-found
+overflow_add-found c =
     let below : c.loop-i.found < length c.loop-i.list = bounds-list-found c in
     search rules
 
@@ -28,7 +28,7 @@ loop-i-preserved c =
       | then-marks-i w ↦
           let found : ℕ = c.loop-i.found in
           let below = passed_is_below test i c.args.n c.loop-i-test.true w.if-marks-i.true in
-          let there : found < length list = omega (arith, below, c.loop-i.invariant.0, c.requires.1) in (
+          let there : found < length list = omega (arith, below, c.loop-i.invariant.0, c.requires.room) in (
             omega (arith, w.found-is, c.loop-i.invariant.0, counts_one test i w.if-marks-i.true),
             w.list-is
                 ∙ ap (λ l. set l found (i + 1)) c.loop-i.invariant.1

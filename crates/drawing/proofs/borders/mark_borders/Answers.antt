@@ -10,6 +10,6 @@ loop-i-preserved c =
     let rs = c.args.roads.now in
     let r = road_at rs c.loop-i.i in
     λ v h.
-    c.mark-ends.ensures v (omega arith)
+    c.mark_ends.ensures v (omega arith)
     ∙ ap (λ t. t || (road_crosses d js r && (eqb r.first v || eqb r.second v))) (c.loop-i.invariant v (omega arith))
     ∙ one_road_more d js rs c.loop-i.i v (omega arith)

@@ -44,7 +44,7 @@ pub returns-in-NoBook-clause-writes : goal.returns-in-NoBook-clause-writes
 returns-in-NoBook-clause-writes g c = rw (c.in-NoBook.is, eleven) c.write-in-NoBook.ensures.writes
 
 pub returns-in-BadEntry-clause-writes : goal.returns-in-BadEntry-clause-writes
-returns-in-BadEntry-clause-writes g c = rw (c.in-BadEntry.is, twelve, ← c.table-number-number.ensures) c.write-in-BadEntry.ensures.writes
+returns-in-BadEntry-clause-writes g c = rw (c.in-BadEntry.is, twelve, ← c.table_number-number.ensures) c.write-in-BadEntry.ensures.writes
 
 pub returns-in-BadText-clause-writes : goal.returns-in-BadText-clause-writes
 returns-in-BadText-clause-writes g c = rw (c.in-BadText.is, thirteen) c.write-in-BadText.ensures.writes

@@ -5,8 +5,9 @@ use Rattle.drawing.specs.Outcomes.{verdict}
 use Rattle.drawing.proofs.Crossings.{no_mark, keeps_the_same, accepted}
 use Rattle.drawing.proofs.rest.Rest.count_borders.Goals as goal
 
-pub mark-borders-requires : goal.mark-borders-requires
-mark-borders-requires c = (search rules, search rules, λ v. no_mark 4097 v)
+pub mark_borders-requires : goal.mark_borders-requires
+mark_borders-requires c =
+    record { enough_junctions = search rules; enough_roads = search rules; unmarked = λ v. no_mark 4097 v }
 
 pub returns : goal.returns
 returns c =
@@ -15,5 +16,5 @@ returns c =
     (search rules)
     (c.count.ensures
     ∙ ap length
-    (keeps_the_same (λ v. get_or c.mark-borders.new.marks v false) (is_border net) 1 c.args.self.now.junctions
-    (λ v h. c.mark-borders.ensures v (omega arith))))
+    (keeps_the_same (λ v. get_or c.mark_borders.new.marks v false) (is_border net) 1 c.args.self.now.junctions
+    (λ v h. c.mark_borders.ensures v (omega arith))))
