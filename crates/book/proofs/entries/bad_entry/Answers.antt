@@ -10,8 +10,8 @@ loop-junction-init g c = (
   λ j low high. absurd (omega arith),
 )
 
-pub bad-in-row-requires : goal.bad-in-row-requires
-bad-in-row-requires g c =
+pub bad_in_row-requires : goal.bad_in_row-requires
+bad_in_row-requires g c =
     let within = offset_within c.args.words.now c.args.counts.now c.args.names c.requires.1 c.loop-junction.junction (omega arith) in
     record {
       ready = c.requires.0;
@@ -20,7 +20,7 @@ bad-in-row-requires g c =
         some_junction = c.loop-junction.auto.junction;
         no_other = c.loop-junction-test.true;
         begins = c.loop-junction.invariant.0;
-        ends = c.offset-word-to.ensures;
+        ends = c.offset_word-to.ensures;
         within = omega arith;
       };
     }
@@ -29,7 +29,7 @@ pub returns-in-Some : goal.returns-in-Some
 returns-in-Some g c =
     let test = bad_entry_lem g.M.Measure.scale c.args.words.now c.args.counts.now c.args.names in
     let within = offset_within c.args.words.now c.args.counts.now c.args.names c.requires.1 c.loop-junction.junction (omega arith) in
-    found_further test 0 (2 * c.loop-junction.from) (2 * c.offset-word-to.result)
+    found_further test 0 (2 * c.loop-junction.from) (2 * c.offset_word-to.result)
     (2 * entry_count_lem c.args.counts.now c.args.names) c.in-Some.place (omega arith) (omega arith)
     c.loop-junction.invariant.1 c.in-Some.ensures
 
@@ -37,18 +37,18 @@ pub loop-junction-preserved : goal.loop-junction-preserved
 loop-junction-preserved g c =
     let test = bad_entry_lem g.M.Measure.scale c.args.words.now c.args.counts.now c.args.names in
     let same : c.loop-junction.junction + 1 - 1 ≡ c.loop-junction.junction = omega arith in (
-      rw same c.offset-word-to.ensures,
-      none_further test 0 (2 * c.loop-junction.from) (2 * c.offset-word-to.result) c.loop-junction.invariant.1
-          c.in-default.ensures,
+      rw same c.offset_word-to.ensures,
+      none_further test 0 (2 * c.loop-junction.from) (2 * c.offset_word-to.result) c.loop-junction.invariant.1
+          c.in_default.ensures,
     )
 
 -- after the last row
-pub returns-in-default : goal.returns-in-default
-returns-in-default g c j low high =
+pub returns-in_default : goal.returns-in_default
+returns-in_default g c j low high =
     let test = bad_entry_lem g.M.Measure.scale c.args.words.now c.args.counts.now c.args.names in
     let end = offsets_end_at_the_count c.args.words.now c.args.counts.now c.args.names c.requires.1 c.loop-junction.junction (omega arith) in
-    none_further test 0 (2 * c.loop-junction.from) (2 * c.offset-word-to.result) c.loop-junction.invariant.1
-    c.in-default.ensures j low (omega arith)
+    none_further test 0 (2 * c.loop-junction.from) (2 * c.offset_word-to.result) c.loop-junction.invariant.1
+    c.in_default.ensures j low (omega arith)
 
 -- where the loop's test fails
 pub returns : goal.returns

@@ -19,10 +19,10 @@ loop-name-preserved g c =
     c.in-Some.ensures c.in-Some-entry.ensures _ _ _ _ same
     c.step-else-other-name.ensures c.step-else-other-name-2.ensures c.join.ensures c.keep-best.ensures
 
-pub returns-in-default-entry : goal.returns-in-default-entry
-returns-in-default-entry g c =
-    right_end g.M.Measure.scale g.met.M.Measure.shows _ _ _ _ _ c.loop-name.invariant c.in-default-entry.ensures
+pub returns-in_default-entry : goal.returns-in_default-entry
+returns-in_default-entry g c =
+    right_end g.M.Measure.scale g.met.M.Measure.shows _ _ _ _ _ c.loop-name.invariant c.in_default-entry.ensures
 
 pub returns : goal.returns
 returns g c =
-    left_end g.M.Measure.scale g.met.M.Measure.shows _ _ _ _ _ c.loop-name.invariant c.in-default.ensures
+    left_end g.M.Measure.scale g.met.M.Measure.shows _ _ _ _ _ c.loop-name.invariant c.in_default.ensures

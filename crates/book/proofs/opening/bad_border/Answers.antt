@@ -10,9 +10,9 @@ loop-j-preserved c =
     let ws = c.args.words.now in
     let counts = c.args.counts.now in
     let j = c.loop-j.j in
-    let good : bad_border_lem ws counts j ≡ false = sym {b = bad_border_lem ws counts j} c.if-is-bad-border.ensures in
+    let good : bad_border_lem ws counts j ≡ false = sym {b = bad_border_lem ws counts j} c.if-is_bad_border.ensures in
     let starts = (c.order.ensures (omega arith)).first in (
       one_word_more (bad_border_lem ws counts) 0 j c.loop-j.invariant.0 good,
-      border_marked ws counts c.requires c.loop-j.seen j c.word-at.result c.loop-j-test.true
-          (c.word-at.ensures ∙ ap (λ f. word ws (f + j)) starts) good c.loop-j.invariant.1,
+      border_marked ws counts c.requires c.loop-j.seen j c.word_at.result c.loop-j-test.true
+          (c.word_at.ensures ∙ ap (λ f. word ws (f + j)) starts) good c.loop-j.invariant.1,
     )

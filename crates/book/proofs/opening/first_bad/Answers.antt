@@ -7,21 +7,21 @@ returns-in-Some g c =
     book_by_counts g.M.Measure.scale c.args.words.now counts c.in-Some.place
     (in_counts counts c.in-Some.place c.in-Some.ensures)
 
-pub returns-in-Some-bad-place : goal.returns-in-Some-bad-place
-returns-in-Some-bad-place g c =
+pub returns-in-Some-bad_place : goal.returns-in-Some-bad_place
+returns-in-Some-bad_place g c =
     let counts = c.args.counts.now in
-    book_by_places g.M.Measure.scale c.args.words.now counts c.in-Some-bad-place.place
-    (counts_good counts c.in-default.ensures) c.in-Some-bad-place.ensures
+    book_by_places g.M.Measure.scale c.args.words.now counts c.in-Some-bad_place.place
+    (counts_good counts c.in_default.ensures) c.in-Some-bad_place.ensures
 
-pub returns-in-Some-bad-row : goal.returns-in-Some-bad-row
-returns-in-Some-bad-row g c =
+pub returns-in-Some-bad_row : goal.returns-in-Some-bad_row
+returns-in-Some-bad_row g c =
     let counts = c.args.counts.now in
-    book_by_ranks g.M.Measure.scale c.args.words.now counts c.in-Some-bad-row.place
-    (counts_good counts c.in-default.ensures) c.in-default-bad-place.ensures c.in-Some-bad-row.ensures
+    book_by_ranks g.M.Measure.scale c.args.words.now counts c.in-Some-bad_row.place
+    (counts_good counts c.in_default.ensures) c.in_default-bad_place.ensures c.in-Some-bad_row.ensures
 
 pub returns : goal.returns
 returns g c =
     let counts = c.args.counts.now in
-    book_by_hubs g.M.Measure.scale c.args.words.now counts c.bad-row-2.result
-    (counts_good counts c.in-default.ensures) c.in-default-bad-place.ensures c.in-default-bad-row.ensures
-    c.bad-row-2.ensures
+    book_by_hubs g.M.Measure.scale c.args.words.now counts c.bad_row-2.result
+    (counts_good counts c.in_default.ensures) c.in_default-bad_place.ensures c.in_default-bad_row.ensures
+    c.bad_row-2.ensures

@@ -20,5 +20,5 @@ loop-line-preserved g c =
       stepped inv.0 c.in-Ok.step,
       inv.1 + 1,
       midway_next {room = room_for c.args.places c.args.records} inv.2 c.in-Ok.step c.in-Some.ensures c.in-Ok.ensures,
-      kept c.in-Ok.step.event (vec_items c.keep.new.asks) (vec_items c.loop-line.asks) inv.0.asks inv.3 c.in-ok-keep.ensures,
+      kept c.in-Ok.step.event (vec_items c.keep.new.asks) (vec_items c.loop-line.asks) inv.0.asks inv.3 c.in_ok-keep.ensures,
     )

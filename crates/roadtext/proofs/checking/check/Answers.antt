@@ -16,6 +16,6 @@ pub loop-line-preserved : goal.loop-line-preserved
 loop-line-preserved g c =
     let inv = c.loop-line.invariant in
     let cut = c.in-Some.ensures in
-    let read = c.in-ok-progress.ensures in
+    let read = c.in_ok-progress.ensures in
     let there = midway_checked inv.1 _ cut read inv.2 in
     (there.0, there.1, there.2, omega (arith, inv.3, cut.shorter, read.3))

@@ -4,11 +4,11 @@ use Rattle.roadtext.proofs.Numbers.{no_number_here, digit_read, digits_on, numbe
 use Rattle.roadtext.proofs.fields.read_digits.Goals as goal
 use Rattle.roadtext.proofs.fields.read_digits.Goals.{then-b-lt48-via-then-b-lt48, then-b-lt48-via-else-b-lt48+then-b-gt57}
 
-pub overflow-mul-n : goal.overflow-mul-n
-overflow-mul-n c = omega (arith, digits_fit c.loop-b.n 0 c.loop-b.b-index c.loop-b.invariant.2 (omega arith) (omega arith))
+pub overflow_mul-n : goal.overflow_mul-n
+overflow_mul-n c = omega (arith, digits_fit c.loop-b.n 0 c.loop-b.b-index c.loop-b.invariant.2 (omega arith) (omega arith))
 
-pub overflow-add-n : goal.overflow-add-n
-overflow-add-n c = record { fits = digits_fit c.loop-b.n c.from.result c.loop-b.b-index c.loop-b.invariant.2 (omega arith) (omega arith) }
+pub overflow_add-n : goal.overflow_add-n
+overflow_add-n c = record { fits = digits_fit c.loop-b.n c.from.result c.loop-b.b-index c.loop-b.invariant.2 (omega arith) (omega arith) }
 
 pub returns-then-b-lt48 : goal.returns-then-b-lt48
 returns-then-b-lt48 c =

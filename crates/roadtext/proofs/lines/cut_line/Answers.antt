@@ -6,8 +6,8 @@ use Rattle.roadtext.specs.Text.{lines}
 use Rattle.roadtext.proofs.Pieces.{line_cut, line_whole}
 use Rattle.roadtext.proofs.lines.cut_line.Goals as goal
 
-pub returns-then-is-empty : goal.returns-then-is-empty
-returns-then-is-empty c = ap lines (nil_from_length c.args.text.now (search rules))
+pub returns-then-is_empty : goal.returns-then-is_empty
+returns-then-is_empty c = ap lines (nil_from_length c.args.text.now (search rules))
 
 pub returns-then-end-text : goal.returns-then-end-text
 returns-then-end-text c = rw take_rest (line_whole c.args.text.now c.find-end.result c.find-end.ensures.place (search rules) c.if-end-text.true)

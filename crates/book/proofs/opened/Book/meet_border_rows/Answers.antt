@@ -6,5 +6,5 @@ pub returns : goal.returns
 returns g c ws book shows left right =
     c.with_border_lem.ensures
     ∙ gives_the_border g.M.Measure.scale g.met.M.Measure.shows ws c.args.first.now c.args.second.now left right
-    c.in-ok-value.value c.in-ok-value.rank c.border.result
-    (c.in-ok-value.ensures left.row right.row) (c.border.ensures g.M.Measure.scale ws book shows)
+    c.in_ok-value.value c.in_ok-value.rank c.border.result
+    (c.in_ok-value.ensures left.row right.row) (c.border.ensures g.M.Measure.scale ws book shows)
