@@ -15,7 +15,7 @@ returns-then-is_bad_value g c =
     let n = c.loop-number.number in
     let test = bad_entry_lem s c.args.words.now c.args.counts.now c.args.names in
     let name = name_tells s c.requires.ready c.requires.good c.requires.lies n (omega arith) (omega arith) false c.if-is_bad_name.ensures in
-    let value = value_tells s c.args.words.now c.args.counts.now c.args.names n c.entry_word_lem.result c.entry_word_lem.ensures true c.if-is_bad_value.ensures in
+    let value = value_tells s c.args.words.now c.args.counts.now c.args.names n c.entry_word.result c.entry_word.ensures true c.if-is_bad_value.ensures in
     (omega arith, omega arith, value, one_word_more test (2 * c.args.from) (2 * n) c.loop-number.invariant name)
 
 pub loop-number-preserved : goal.loop-number-preserved
@@ -24,7 +24,7 @@ loop-number-preserved g c =
     let n = c.loop-number.number in
     let test = bad_entry_lem s c.args.words.now c.args.counts.now c.args.names in
     let name = name_tells s c.requires.ready c.requires.good c.requires.lies n (omega arith) (omega arith) false c.if-is_bad_name.ensures in
-    let value = value_tells s c.args.words.now c.args.counts.now c.args.names n c.entry_word_lem.result c.entry_word_lem.ensures false c.if-is_bad_value.ensures in
+    let value = value_tells s c.args.words.now c.args.counts.now c.args.names n c.entry_word.result c.entry_word.ensures false c.if-is_bad_value.ensures in
     one_entry_more test (2 * c.args.from) n c.loop-number.invariant name value
 
 pub returns : goal.returns
