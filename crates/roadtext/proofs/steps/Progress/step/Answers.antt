@@ -16,7 +16,7 @@ returns-in-Arc-Twin g c =
 
 pub returns-in-Move-Tail : goal.returns-in-Move-Tail
 returns-in-Move-Tail g c =
-    tail_moves g.M.Measure.scale (fields c.args.line.now) c.args.self.now c.move_line.result c.in-Move-Tail.ensures c.in-Move-Tail.is-1 c.move_line_lem.ensures
+    tail_moves g.M.Measure.scale (fields c.args.line.now) c.args.self.now c.move_line.result c.in-Move-Tail.ensures c.in-Move-Tail.is-1 c.move_line.ensures
 
 pub returns-in-Ask-Tail : goal.returns-in-Ask-Tail
 returns-in-Ask-Tail g c =
