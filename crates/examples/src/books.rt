@@ -75,7 +75,7 @@ fn damaged_books(rt: HostRuntime) -> Result<(), Fail> {
 fn rows_and_joins(rt: HostRuntime) -> Result<(), Fail> {
     let book = open::<Metres>(&BOOK)?;
     let row = book.border_row(6)?;
-    assert!(rt; row == &[0, 500, 1, 750, 2, 550, 3, 400]);
+    assert!(rt; row == [0, 500, 1, 750, 2, 550, 3, 400].as_slice());
     let second = book.border_row(2)?;
     assert_eq!(rt;
         book.meet_border_rows::<Metres>(second, row),
@@ -87,7 +87,7 @@ fn rows_and_joins(rt: HostRuntime) -> Result<(), Fail> {
     );
     let first = book.district_row(1)?;
     let third = book.district_row(3)?;
-    assert!(rt; third == &[1, 450, 2, 900, 3, 0]);
+    assert!(rt; third == [1, 450, 2, 900, 3, 0].as_slice());
     assert_eq!(rt;
         book.meet_district_rows::<Metres>(first, third),
         Some((450, 1))
