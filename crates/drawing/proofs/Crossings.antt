@@ -1,5 +1,5 @@
 -- Borders, road by road: which junctions a list of roads makes borders. Assumes nothing.
-use Rattle.std.proofs.Common.{◌≡◌, ℕ, zero, suc, ◌+◌, ◌-◌, ◌<◌, ◌≤◌, Bool, true, false, cond, not, ◌&&◌, ◌||◌, eqb, List, [], ◌∷◌, ◌++◌, map, length, get_or, take, replicate, Ok, filter, Result, sym, refl, ap, ◌∙◌, add-zero, add-suc, add-one, arith}
+use Rattle.std.proofs.Common.{◌≡◌, ℕ, zero, suc, ◌+◌, ◌-◌, ◌<◌, ◌≤◌, Bool, true, false, cond, not, ◌&&◌, ◌||◌, eqb, List, [], ◌∷◌, ◌++◌, map, length, get_or, take, replicate, Ok, filter, Result, sym, refl, ap, ◌∙◌, add-zero, add-one, arith}
 use mathlib.Core.Bool.{or_assoc}
 use Rattle.std.proofs.lemmas.List.{get_or-take, get_or_past, get_or-map, length-map, length-take, length-append, map-append, take_more}
 use Rattle.std.proofs.lemmas.List.Elements.{filter-append}
@@ -14,7 +14,6 @@ use Rattle.drawing.specs.Outcomes.{Ends}
 use Rattle.drawing.specs.declared.refusal.Refusal.{Refusal}
 use Rattle.drawing.specs.declared.rest.Rest.{Rest}
 use Rattle.drawing.specs.declared.tables.Junction.{Junction}
-use Rattle.drawing.specs.declared.tables.Mark.TheVariants.{Open, Closed}
 use Rattle.drawing.specs.declared.tables.Road.{Road}
 
 -- the road in record number i of a table

@@ -1,5 +1,5 @@
 -- Those of the numbers from 1 on that pass a test, written to the front of a list one after the other. Assumes nothing.
-use Rattle.std.proofs.Common.{◌≡◌, ℕ, zero, suc, ◌+◌, ◌-◌, ◌<◌, ◌≤◌, Bool, true, false, cond, List, [], ◌∷◌, ◌++◌, length, drop, set, filter, sym, refl, ap, ◌∙◌, append_assoc, add-zero, add-one, arith}
+use Rattle.std.proofs.Common.{◌≡◌, ℕ, zero, suc, ◌+◌, ◌-◌, ◌<◌, ◌≤◌, Bool, true, false, cond, List, [], ◌∷◌, ◌++◌, length, drop, set, filter, sym, ap, ◌∙◌, append_assoc, add-zero, add-one, arith}
 use Rattle.std.proofs.lemmas.List.{drop_more, set_at, append-nil}
 use Rattle.std.proofs.lemmas.List.Elements.{filter-append}
 use Rattle.network.specs.Lists.{count_up}

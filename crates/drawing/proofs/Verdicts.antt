@@ -1,5 +1,5 @@
 -- The verdict of two lists of checks, one after the other, and what a call's end says of its verdict. Assumes nothing.
-use Rattle.std.proofs.Common.{◌≡◌, ℕ, ◌≤◌, Bool, true, false, cond, List, [], ◌∷◌, ◌++◌, Ok, Err, Result, refl, arith}
+use Rattle.std.proofs.Common.{◌≡◌, ℕ, ◌≤◌, true, false, cond, List, [], ◌∷◌, ◌++◌, Ok, Err, Result, refl, arith}
 use Rattle.std.proofs.lemmas.Bool.{le-ltb}
 use Rattle.drawing.specs.Edits.{size_check}
 use Rattle.drawing.specs.declared.refusal.Refusal.{Refusal}

@@ -214,7 +214,7 @@ impl Rest {
     pub fn check_district(&self, district: u64) -> Result<(), Refusal>
         ensures { result ≡ verdict (district_check self.now district ∷ []) }
     {
-        if district >= self.districts {
+        if self.districts <= district {
             return Err(Refusal::NoDistrict);
         }
         Ok(())

@@ -1,8 +1,8 @@
 -- No measure has the order "clearance first, then metres". Assumes nothing.
-use Rattle.std.proofs.Common.{◌≡◌, ℕ, Bool, true, false, sym, refl, ap, ◌∙◌, subst, ⊎_elim}
+use Rattle.std.proofs.Common.{◌≡◌, ℕ, true, refl, ⊎_elim}
 use Rattle.std.proofs.lemmas.Bool.{both_ways}
 use Rattle.measure.specs.Scale.{Scale, Value, Laws, NoWorse}
-use Rattle.measure.specs.Pairs.{Pair, pair, pair_better, pair_join, HasThePairs, ClearanceThenMetresIsNoMeasure}
+use Rattle.measure.specs.Pairs.{Pair, pair, pair_join, HasThePairs, ClearanceThenMetresIsNoMeasure}
 
 -- what is better is no worse
 pub better_is_no_worse : (s : Scale) → Laws s → (a b : ℕ) → Value s a → Value s b → s.better a b ≡ true → NoWorse s a b

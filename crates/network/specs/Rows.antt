@@ -1,5 +1,5 @@
 -- Border rows, shortcuts, the network of a district, and district rows. Assumes nothing.
-use Rattle.std.specs.Prelude.{ℕ, ◌-◌, Bool, cond, not, ◌&&◌, List, [], ◌∷◌, ◌++◌, filter, ◌==◌, nat_eq, slice_index}
+use Rattle.std.specs.Prelude.{ℕ, ◌-◌, Bool, cond, ◌&&◌, List, [], ◌∷◌, ◌++◌, filter, ◌==◌, nat_eq, slice_index}
 use Rattle.measure.specs.Scale.{Scale}
 use Rattle.network.specs.Lists.{count_up}
 use Rattle.network.specs.Walks.{Arc, arc, best_within}

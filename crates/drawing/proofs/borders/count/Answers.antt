@@ -1,4 +1,4 @@
-use Rattle.std.proofs.Common.{◌≡◌, ℕ, ◌+◌, false, length, get_or, filter, ap, ◌∙◌, arith, rules}
+use Rattle.std.proofs.Common.{◌≡◌, ℕ, ◌+◌, false, length, get_or, filter, ap, ◌∙◌, arith}
 use Rattle.network.specs.Lists.{count_up}
 use Rattle.std.proofs.lemmas.Bool.{cond-true, cond-false}
 use Rattle.drawing.proofs.Crossings.{count_one_more}

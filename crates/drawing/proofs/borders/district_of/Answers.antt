@@ -1,4 +1,4 @@
-use Rattle.std.proofs.Common.{get_or, ap, ◌∙◌, arith, rules}
+use Rattle.std.proofs.Common.{get_or, ap, ◌∙◌, rules}
 use Rattle.drawing.specs.Edits.{in_district}
 use Rattle.drawing.proofs.Crossings.{district_is_read, no_district}
 use Rattle.drawing.proofs.borders.district_of.Goals as goal
