@@ -14,7 +14,7 @@ use Rattle.book.proofs.BookLimits.{as_many_rows_as_junctions}
 use Rattle.book.proofs.BookSections.{length_laid, laid_is_no_longer, six_sections}
 
 -- the words ws begin with the book of the network: each count, and each section
-pub record Laid_out (s : Scale) (net : Network) (order ws : List ℕ) : Type 0 where
+pub record LaidOut (s : Scale) (net : Network) (order ws : List ℕ) : Type 0 where
   pub number_is : word ws 0 ≡ 1
   pub tag_is : word ws 1 ≡ s.tag
   pub junctions_are : word ws 2 ≡ net.junctions
@@ -69,7 +69,7 @@ module _ (s : Scale) (net : Network) (long : length net.places ≡ net.junctions
         length_laid front net.places order border_offsets_lem border_words district_offsets_lem district_words [],
       )
 
-  pub words_are_laid_out : (more : List ℕ) → Laid_out s net order (words s net order ++ more)
+  pub words_are_laid_out : (more : List ℕ) → LaidOut s net order (words s net order ++ more)
   words_are_laid_out more =
       let n : ℕ = net.junctions in
       let k : ℕ = length (all_entries (border_rows s net order)) in

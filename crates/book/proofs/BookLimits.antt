@@ -2,7 +2,7 @@
 -- Assumes nothing.
 use Rattle.std.proofs.Common.{◌≡◌, ℕ, zero, suc, ◌+◌, ◌*◌, ◌<◌, ◌≤◌, true, List, [], ◌∷◌, map, length, get_or, refl, ap, ◌∙◌, subst, inl, inr, arith}
 use lib.ListN.{length-map}
-use Rattle.std.specs.List.{AllByRecursion as All}
+use Rattle.std.specs.List.{AllByRecursion}
 use Rattle.std.proofs.lemmas.List.{get_or-map}
 use Rattle.std.proofs.ByRecursion.{All-map}
 use Rattle.measure.specs.Scale.{Scale}
@@ -28,7 +28,7 @@ distinct_are_no_more (x ∷ xs) ys (other, d) inside =
     omega arith
 
 module _ (s : Scale) (net : Network) (sound : Sound s net) (order : List ℕ) (is_order : BorderOrder net order) where
-  pub order_has_junctions : All (Junction net) order
+  pub order_has_junctions : AllByRecursion (Junction net) order
   order_has_junctions =
       all_from_in (Junction net) order
       (λ v i. border_is_a_junction s net sound v (all_in (λ x. is_border net x ≡ true) v order is_order.holds_borders_alone i))

@@ -1,6 +1,6 @@
 -- The words of a network's book are a book, and show exactly its rows. Assumes nothing.
 use Rattle.std.proofs.Common.{◌≡◌, ℕ, suc, ◌+◌, ◌-◌, ◌*◌, ◌<◌, ◌≤◌, true, false, not, ◌||◌, eqb, ltb, List, [], ◌++◌, map, length, get_or, Ok, sym, refl, ap, ◌∙◌, subst, arith}
-use Rattle.std.specs.List.{AllByRecursion as All}
+use Rattle.std.specs.List.{AllByRecursion}
 use Rattle.std.proofs.lemmas.Bool.{or_from, and_from, not_from_true, eq-eqb, lt-ltb, le-ltb}
 use Rattle.std.proofs.ByRecursion.{All-weaker}
 use Rattle.measure.specs.Scale.{Scale, Laws}
@@ -28,10 +28,10 @@ use Rattle.book.proofs.BookLimits.{order_has_junctions, order_is_no_longer, as_m
 use Rattle.book.proofs.Parts.{nothing_is_bad}
 use Rattle.drawing.proofs.Within.{is_within}
 use Rattle.book.proofs.NothingBad.{no_count_is_bad, no_district_is_bad, no_border_is_bad}
-use Rattle.book.proofs.BookLaidOut.{Laid_out, book_size_is, words_are_laid_out}
+use Rattle.book.proofs.BookLaidOut.{LaidOut, book_size_is, words_are_laid_out}
 
 module _ (s : Scale) (laws : Laws s) (net : Network) (order : List ℕ) (bookable : Bookable s net) (is_order : BorderOrder net order)
-    (ws : List ℕ) (laid : Laid_out s net order ws) where
+    (ws : List ℕ) (laid : LaidOut s net order ws) where
   ascending : RowsAscend s net order
   ascending = rows_ascend_lem s laws net order bookable.allowed
 
@@ -119,10 +119,10 @@ module _ (s : Scale) (laws : Laws s) (net : Network) (order : List ℕ) (bookabl
         no_count_is_bad ws (counts_of ws) counts_are_ready (omega (arith, bookable.some_districts, laid.districts_are)),
         (
           no_district_is_bad ws (counts_of ws) net.places laid.places_lie (sound.every_junction_has_a_district ∙ sym laid.junctions_are)
-              (subst (λ m. All (λ d. d < m) net.places) (sym laid.districts_are) sound.districts_are_below_their_number),
+              (subst (λ m. AllByRecursion (λ d. d < m) net.places) (sym laid.districts_are) sound.districts_are_below_their_number),
           (
             no_border_is_bad ws (counts_of ws) order laid.order_lies (sym laid.borders_are)
-                (subst (λ n. All (λ v. (1 ≤ v) × (v ≤ n)) order) (sym laid.junctions_are) (order_has_junctions s net sound order is_order))
+                (subst (λ n. AllByRecursion (λ v. (1 ≤ v) × (v ≤ n)) order) (sym laid.junctions_are) (order_has_junctions s net sound order is_order))
                 is_order.holds_none_twice,
             (
               no_offset_is_bad ws (counts_of ws) Ranks (border_rows s net order) laid.border_rows_lie,

@@ -1,6 +1,6 @@
 -- Rows that lie in words, with hubs that ascend and are right and with proper values: none of their words is bad. Assumes nothing.
 use Rattle.std.proofs.Common.{◌≡◌, ℕ, zero, suc, ◌+◌, ◌-◌, ◌*◌, ◌/◌, ◌%◌, ◌<◌, Bool, true, false, not, ◌&&◌, eqb, leb, List, [], ◌∷◌, length, get_or, refl, ap, ◌∙◌, subst, ⊎_elim, arith}
-use Rattle.std.specs.List.{AllByRecursion as All}
+use Rattle.std.specs.List.{AllByRecursion}
 use Rattle.std.proofs.lemmas.Bool.{cases_eq, cond_both, or_from, and_left, and_right, not_from_true, eqb-false, eq-eqb, ne_eqb, lt-leb}
 use Rattle.std.proofs.ByRecursion.{All-get_or}
 use Rattle.measure.specs.Scale.{Scale}
@@ -47,8 +47,8 @@ next_hub_is_above (x ∷ y ∷ es) a (suc i) l = next_hub_is_above (y ∷ es) a.
 -- a row with hubs that ascend and that are right in the row of v, and with proper values
 pub record GoodRow (s : Scale) (ws : List ℕ) (c : Counts) (names : Names) (v : ℕ) (row : List Entry) : Type 0 where
   pub ascends : Ascends row
-  pub right : All (λ e. right_name ws c names v e.hub ≡ true) row
-  pub proper : All (λ e. Proper s e.worth) row
+  pub right : AllByRecursion (λ e. right_name ws c names v e.hub ≡ true) row
+  pub proper : AllByRecursion (λ e. Proper s e.worth) row
 
 pub proper_is_not_bad : (s : Scale) (x : ℕ) → Proper s x → bad_value s x ≡ false
 proper_is_not_bad s x p = or_from (not (s.value x)) (eqb x s.none) (not_from_true (s.value x) p.0) (ne_eqb x s.none p.1)

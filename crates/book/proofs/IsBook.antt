@@ -1,7 +1,7 @@
 -- What holds of words that are a book: their counts are within their limits, all words are there, and no offset is bad.
 -- Assumes nothing.
 use Rattle.std.proofs.Common.{◌≡◌, ℕ, ◌*◌, ◌<◌, Bool, true, false, cond, eqb, List, [], ◌∷◌, length, Ok, Err, Result, refl, arith}
-use Rattle.std.specs.List.{AllByRecursion as All}
+use Rattle.std.specs.List.{AllByRecursion}
 use Rattle.std.proofs.lemmas.Bool.{not-false, ltb-false, eqb-true}
 use Rattle.measure.specs.Scale.{Scale}
 use Rattle.drawing.specs.Outcomes.{Check, verdict}
@@ -20,14 +20,14 @@ passed : (b : Bool) (x : Refusal) (r : Result Unit Refusal) → cond b (Err x) r
 passed true x r e = absurd (let z : ◌≡◌ {A = ℕ} 0 1 = cc in omega arith)
 passed false x r e = (refl, e)
 
-none_fails : (cs : List Check) → verdict cs ≡ Ok tt → All (λ c. c.fails ≡ false) cs
+none_fails : (cs : List Check) → verdict cs ≡ Ok tt → AllByRecursion (λ c. c.fails ≡ false) cs
 none_fails [] e = tt
 none_fails (c ∷ cs) e =
     let t = passed c.fails c.refusal (verdict cs) e in
     (t.0, none_fails cs t.1)
 
 module _ (s : Scale) (ws : List ℕ) (book : IsBook s ws) where
-  all_good : All GoodPart (parts s ws (counts_of ws))
+  all_good : AllByRecursion GoodPart (parts s ws (counts_of ws))
   all_good = parts_are_good (parts s ws (counts_of ws)) book.none_bad
 
   pub ready : Ready ws (counts_of ws)

@@ -1,6 +1,6 @@
 -- What two ascending rows offer, entry by entry, and how the best offer so far is kept. Assumes nothing.
 use Rattle.std.proofs.Common.{◌≡◌, ℕ, ◌<◌, true, eqb, List, [], ◌∷◌, Some, None, Option, sym, refl, ap, ◌∙◌, ⊎_elim, arith}
-use Rattle.std.specs.List.{AllByRecursion as All}
+use Rattle.std.specs.List.{AllByRecursion}
 use Rattle.std.proofs.lemmas.Bool.{cases_Bool, cond-true, cond-false, cond_both, eq-eqb, ne_eqb}
 use Rattle.measure.specs.Scale.{Scale, Value, Laws, NoWorse, counts}
 use Rattle.network.specs.Labels.{Entry, entry, put_cell, value_at, offers, better_offer, best_offer, Ascends}
@@ -25,7 +25,7 @@ and_then s (Some e) m = Some (better_offer s e m)
 
 -- all hubs of a row are above h
 abbrev pub Above : ℕ → List Entry → Type 0
-Above h p = All (λ e. h < e.hub) p
+Above h p = AllByRecursion (λ e. h < e.hub) p
 
 -- what is below the first hub of an ascending row is below all
 pub below_all : (h : ℕ) (e : Entry) (p : List Entry) → h < e.hub → Ascends (e ∷ p) → Above h (e ∷ p)

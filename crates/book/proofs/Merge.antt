@@ -1,6 +1,6 @@
 -- Two rows merged: what is left to merge from any turn on gives, with the best so far, what the whole rows give. Assumes nothing.
 use Rattle.std.proofs.Common.{◌≡◌, ℕ, ◌<◌, eqb, List, [], ◌∷◌, drop, Some, None, Option, sym, refl, ap, ◌∙◌, subst, arith}
-use Rattle.std.specs.List.{AllByRecursion as All}
+use Rattle.std.specs.List.{AllByRecursion}
 use Rattle.std.proofs.lemmas.Bool.{cond-true, eq-eqb}
 use Rattle.std.proofs.ByRecursion.{All-weaker}
 use Rattle.measure.specs.Scale.{Scale, Value, Laws, counts}
@@ -23,7 +23,7 @@ abbrev pub Merging : Scale → List ℕ → List ℕ → List ℕ → List ℕ �
 Merging s first second p q best = IsRow s first → IsRow s second → LeftToMerge s first second p q best
 
 module _ (s : Scale) where
-  pub values : (p : List Entry) → All (λ e. Proper s e.worth) p → AllValues s p
+  pub values : (p : List Entry) → AllByRecursion (λ e. Proper s e.worth) p → AllValues s p
   values p h = All-weaker (λ e. Proper s e.worth) (λ e. Value s e.worth) (λ e x. x.0) p h
 
   rest_is_row : (h x : ℕ) (p : List ℕ) → IsRow s (h ∷ x ∷ p) → IsRow s p

@@ -1,6 +1,6 @@
 -- Counts within their limits, districts and borders as a network has them: none of their words is bad. Assumes nothing.
 use Rattle.std.proofs.Common.{◌≡◌, ℕ, zero, suc, ◌+◌, ◌*◌, ◌<◌, ◌≤◌, false, not, eqb, List, [], ◌∷◌, length, get_or, take, refl, ap, ◌∙◌, subst, arith}
-use Rattle.std.specs.List.{AllByRecursion as All}
+use Rattle.std.specs.List.{AllByRecursion}
 use Rattle.std.proofs.lemmas.Bool.{or_from, not_from_true, eq-eqb, ne_eqb, lt-leb, le-ltb}
 use Rattle.std.proofs.ByRecursion.{All-get_or}
 use Rattle.drawing.specs.Edits.{within}
@@ -52,14 +52,14 @@ none_stood_before (x ∷ xs) (suc j) (other, d) l =
 
 module _ (ws : List ℕ) (c : Counts) where
   pub no_district_is_bad : (places : List ℕ) → words_in (places_at c) ws ≡ places → length places ≡ c.junctions
-      → All (λ d. d < c.districts) places → (j : ℕ) → j < c.junctions → bad_district_lem ws c j ≡ false
+      → AllByRecursion (λ d. d < c.districts) places → (j : ℕ) → j < c.junctions → bad_district_lem ws c j ≡ false
   no_district_is_bad places lie long below j l =
       let is : word ws ((places_at c).first + j) ≡ get_or places j 0 = word_of_section (places_at c) ws places j lie l in
       let small : get_or places j 0 < c.districts = All-get_or (λ d. d < c.districts) places j 0 (omega arith) below in
       lt-leb c.districts (word ws ((places_at c).first + j)) (omega arith)
 
   pub no_border_is_bad : (order : List ℕ) → words_in (order_at c) ws ≡ order → length order ≡ c.borders
-      → All (λ v. (1 ≤ v) × (v ≤ c.junctions)) order → Distinct order → (j : ℕ) → j < c.borders → bad_border_lem ws c j ≡ false
+      → AllByRecursion (λ v. (1 ≤ v) × (v ≤ c.junctions)) order → Distinct order → (j : ℕ) → j < c.borders → bad_border_lem ws c j ≡ false
   no_border_is_bad order lie long junctions distinct j l =
       let x : ℕ = word ws ((order_at c).first + j) in
       let is : x ≡ get_or order j 0 = word_of_section (order_at c) ws order j lie l in

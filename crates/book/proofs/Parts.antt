@@ -1,6 +1,6 @@
 -- Where the first bad word of a list of parts stands. Assumes nothing.
 use Rattle.std.proofs.Common.{◌≡◌, ℕ, ◌+◌, ◌-◌, ◌<◌, ◌≤◌, Bool, true, false, ◌&&◌, ◌||◌, ltb, leb, List, [], ◌∷◌, ◌++◌, Some, None, Option, sym, refl, ◌∙◌, subst, ⊎_elim, arith}
-use Rattle.std.specs.List.{AllByRecursion as All}
+use Rattle.std.specs.List.{AllByRecursion}
 use Rattle.std.proofs.lemmas.Bool.{both_ways, cases_Bool, cases_lt, or_parts, or_from, or_left, or_right, or_cases, and_parts, and_left, and_right, lt-leb, le-ltb, le-leb, lt-ltb, ltb-true, false≢true}
 use Rattle.book.specs.Layout.{after}
 use Rattle.book.specs.Bad.{Part, bad_in, Finds}
@@ -52,14 +52,14 @@ abbrev pub GoodPart : Part → Type 0
 GoodPart p = (j : ℕ) → j < p.lies.size → p.bad j ≡ false
 
 -- where no part has a bad word, no place is bad
-pub nothing_is_bad : (ps : List Part) → All GoodPart ps → FirstIn ps None
+pub nothing_is_bad : (ps : List Part) → AllByRecursion GoodPart ps → FirstIn ps None
 nothing_is_bad [] h i = refl
 nothing_is_bad (p ∷ ps) (h, t) i =
     or_from (bad_here p i) (bad_in ps i) (not_here p i (λ from below. h (i - p.lies.first) (omega arith)))
     (nothing_is_bad ps t i)
 
 -- where no place is bad, no part has a bad word
-pub parts_are_good : (ps : List Part) → FirstIn ps None → All GoodPart ps
+pub parts_are_good : (ps : List Part) → FirstIn ps None → AllByRecursion GoodPart ps
 parts_are_good [] h = tt
 parts_are_good (p ∷ ps) h =
     let here : (i : ℕ) → (bad_here p i ≡ false) × (bad_in ps i ≡ false) = λ i. or_parts (bad_here p i) (bad_in ps i) (h i) in (

@@ -1,6 +1,6 @@
 -- A row that an opened book hands out is a row: its entries are whole, its hubs ascend, and its values are proper. Assumes nothing.
 use Rattle.std.proofs.Common.{◌≡◌, ℕ, zero, suc, ◌+◌, ◌-◌, ◌*◌, ◌<◌, ◌≤◌, true, false, not, ◌&&◌, eqb, leb, List, ◌∷◌, length, take, drop, sym, refl, ap, ◌∙◌, subst, arith}
-use Rattle.std.specs.List.{AllByRecursion as All}
+use Rattle.std.specs.List.{AllByRecursion}
 use Rattle.std.proofs.lemmas.List.{drop_more}
 use Rattle.std.proofs.lemmas.Bool.{or_parts, not-false, ne_eqb, eqb-false, leb-false, ltb-true}
 use Rattle.std.proofs.ByRecursion.{All-weaker}
@@ -51,10 +51,10 @@ module _ (ws : List ℕ) where
 
   -- what holds of each of the entries by its number holds of all
   all_of_them :
-      (P : Entry → Type 0) (n f : ℕ) → f + 2 * n ≤ length ws → ((k : ℕ) → k < n → P (entry_from f k)) → All P (entries (some_entries n f))
+      (P : Entry → Type 0) (n f : ℕ) → f + 2 * n ≤ length ws → ((k : ℕ) → k < n → P (entry_from f k)) → AllByRecursion P (entries (some_entries n f))
   all_of_them P zero f there h = tt
   all_of_them P (suc n) f there h =
-      subst (λ xs. All P (entries xs)) (sym (one_entry_first n f there)) (
+      subst (λ xs. AllByRecursion P (entries xs)) (sym (one_entry_first n f there)) (
         subst P (sym (here f)) (h 0 (omega arith)),
         all_of_them P n (f + 2) (omega arith) (λ k l. subst P (sym (later f k)) (h (suc k) (omega arith))),
       )
@@ -188,7 +188,7 @@ module _ (s : Scale) (ws : List ℕ) (book : IsBook s ws) (names : Names) (v : �
   }
 
   -- and each name in it is right
-  pub row_names_are_right : All (λ e. right_name ws c names v e.hub ≡ true) (entries (row_words ws names v))
+  pub row_names_are_right : AllByRecursion (λ e. right_name ws c names v e.hub ≡ true) (entries (row_words ws names v))
   row_names_are_right = all_of_them ws (λ e. right_name ws c names v e.hub ≡ true) (end - begin) place lies_within name_is_right
 
 pub rows_are_rows_lem : (s : Scale) (ws : List ℕ) → IsBook s ws → RowsAreRows s ws

@@ -2,7 +2,7 @@
 use Rattle.std.proofs.Common.{◌≡◌, ℕ, zero, suc, ◌+◌, ◌-◌, ◌*◌, ◌<◌, ◌≤◌, List, [], ◌∷◌, ◌++◌, length, get_or, sym, refl, ap, ◌∙◌, ⊎_elim, append_assoc, suc-mul, arith, length-append}
 use Rattle.std.proofs.lemmas.List.{get_or_append_left, get_or-append-add}
 use Rattle.std.proofs.lemmas.Bool.{cases_lt}
-use Rattle.std.specs.List.{AllByRecursion as All}
+use Rattle.std.specs.List.{AllByRecursion}
 use Rattle.network.specs.Labels.{Entry}
 use Rattle.book.specs.Words.{offsets_from, all_entries}
 
@@ -96,7 +96,7 @@ locate (r ∷ rows) e l =
     (cases_lt e (length r))
 
 -- no more entries than rows of so many
-pub entries_are_at_most : (m : ℕ) (rows : List (List Entry)) → All (λ r. length r ≤ m) rows → length (all_entries rows) ≤ length rows * m
+pub entries_are_at_most : (m : ℕ) (rows : List (List Entry)) → AllByRecursion (λ r. length r ≤ m) rows → length (all_entries rows) ≤ length rows * m
 entries_are_at_most m [] h = omega arith
 entries_are_at_most m (r ∷ rows) (h, t) =
     let ih = entries_are_at_most m rows t in rw (length-append r (all_entries rows)) (omega (arith, suc-mul (length rows) m))

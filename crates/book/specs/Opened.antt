@@ -7,7 +7,7 @@ use Rattle.drawing.specs.Outcomes.{Check, refuse, verdict, Ends}
 use Rattle.drawing.specs.declared.refusal.Table.TheVariants.{Book as of_the_book}
 use Rattle.drawing.specs.declared.refusal.Refusal.{Refusal}
 use Rattle.drawing.specs.declared.refusal.Refusal.TheVariants.{OtherMeasure, NoJunction, ShortBook, NoBook, BadEntry}
-use Rattle.std.specs.List.{AllByRecursion as All}
+use Rattle.std.specs.List.{AllByRecursion}
 use Rattle.network.specs.Labels.{Entry, meet, Ascends}
 use Rattle.network.specs.Theorems.{Proper}
 use Rattle.book.specs.Layout.{word, counts_of, Section, section, words_in, entries}
@@ -63,7 +63,7 @@ HandsOutTheRow s names b v r =
 pub record IsRow (s : Scale) (ws : List ℕ) : Type 0 where
   pub whole : ws ≡ entry_words (entries ws)
   pub ascends : Ascends (entries ws)
-  pub proper : All (λ e. Proper s e.worth) (entries ws)
+  pub proper : AllByRecursion (λ e. Proper s e.worth) (entries ws)
 
 -- an offer as the pair of its value and its hub
 abbrev pub as_pair : Option Entry → Option (ℕ × ℕ)

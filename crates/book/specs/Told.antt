@@ -1,6 +1,6 @@
 -- What an opened book tells of its junctions and borders. Assumes nothing.
 use Rattle.std.specs.Prelude.{◌≡◌, ℕ, ◌+◌, ◌-◌, ◌<◌, ◌≤◌, true, cond, not, List, [], ◌∷◌, Some, None, Option, Result, nat_lt, slice_index}
-use Rattle.std.specs.List.{AllByRecursion as All}
+use Rattle.std.specs.List.{AllByRecursion}
 use Rattle.measure.specs.Scale.{Scale}
 use Rattle.network.specs.Labels.{meet}
 use Rattle.drawing.specs.Edits.{within}
@@ -45,7 +45,7 @@ with_border_lem x (Some y) = Some (x, y)
 -- the words of a row whose names are ranks in the book's border order
 pub record IsBorderRow (s : Scale) (ws p : List ℕ) : Type 0 where
   pub row : IsRow s p
-  pub ranks : All (λ e. e.hub < word ws 4) (entries p)
+  pub ranks : AllByRecursion (λ e. e.hub < word ws 4) (entries p)
 
 -- A call on an opened book joins two of its border rows: the best joined value, and the first border that gives it.
 abbrev pub JoinsBorderRows : Scale → Book → List ℕ → List ℕ → Option (ℕ × ℕ) → Type 0
@@ -56,7 +56,7 @@ JoinsBorderRows s b p q r =
 -- the words of a row of junction v whose names are junctions of its district
 pub record IsDistrictRow (s : Scale) (ws : List ℕ) (v : ℕ) (p : List ℕ) : Type 0 where
   pub row : IsRow s p
-  pub hubs : All (λ e. right_name ws (counts_of ws) Hubs v e.hub ≡ true) (entries p)
+  pub hubs : AllByRecursion (λ e. right_name ws (counts_of ws) Hubs v e.hub ≡ true) (entries p)
 
 -- The rows that a book hands out are rows that can be joined.
 pub record RowsAreRows (s : Scale) (ws : List ℕ) : Type 0 where

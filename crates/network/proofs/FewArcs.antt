@@ -1,6 +1,6 @@
 -- Few arcs suffice: for every walk there is one no worse with fewer arcs than there are junctions. Assumes nothing.
 use Rattle.std.proofs.Common.{◌≡◌, ℕ, zero, suc, ◌-◌, ◌≤◌, ◌⊎◌, List, [], ◌∷◌, length, subst, inl, inr, ⊎_elim, arith}
-use Rattle.std.specs.List.{AllByRecursion as All}
+use Rattle.std.specs.List.{AllByRecursion}
 use Rattle.std.proofs.lemmas.Bool.{cases_eq}
 use Rattle.measure.specs.Scale.{Scale, Value, Laws, NoWorse}
 use Rattle.network.specs.Lists.{In}
@@ -11,7 +11,7 @@ use Rattle.network.proofs.Walks.{walk_value_is_a_value}
 
 -- each arc of the walk leads to a junction of the list
 abbrev pub LeadsInto : List ℕ → List Arc → Type 0
-LeadsInto all w = All (λ a. In a.to all) w
+LeadsInto all w = AllByRecursion (λ a. In a.to all) w
 
 -- what the arcs of a list lead to, as a walk takes them
 pub leads_into :

@@ -1,6 +1,6 @@
 -- Membership of lists: by rank, of two lists in a row, of what a test keeps, of numbers counted up. Assumes nothing.
 use Rattle.std.proofs.Common.{◌≡◌, ℕ, zero, suc, ◌+◌, ◌<◌, ◌≤◌, Bool, true, false, not, eqb, ◌⊎◌, List, [], ◌∷◌, ◌++◌, length, get_or, filter, sym, refl, ap, ◌∙◌, subst, inl, inr, ⊎_elim, arith}
-use Rattle.std.specs.List.{AllByRecursion as All}
+use Rattle.std.specs.List.{AllByRecursion}
 use Rattle.std.proofs.lemmas.Bool.{cases_eq, cases_Bool, cond_both, eq-eqb, ne_eqb, not_from_true, not_from_false}
 use Rattle.std.proofs.ByRecursion.{all_kept_by, kept_by_passes}
 use Rattle.network.specs.Lists.{In, Distinct, count_up}
@@ -21,13 +21,13 @@ module _ {A : Type 0} where
   in_append_cases x (y ∷ xs) ys (inr i) = ⊎_elim (λ j. inl (inr j)) inr (in_append_cases x xs ys i)
 
   -- what holds of all holds of each
-  pub all_in : (P : A → Type 0) (x : A) (xs : List A) → All P xs → In x xs → P x
+  pub all_in : (P : A → Type 0) (x : A) (xs : List A) → AllByRecursion P xs → In x xs → P x
   all_in P x [] h i = absurd i
   all_in P x (y ∷ xs) (h, t) (inl e) = subst P (sym e) h
   all_in P x (y ∷ xs) (h, t) (inr i) = all_in P x xs t i
 
   -- what holds of each holds of all
-  pub all_from_in : (P : A → Type 0) (xs : List A) → ((x : A) → In x xs → P x) → All P xs
+  pub all_from_in : (P : A → Type 0) (xs : List A) → ((x : A) → In x xs → P x) → AllByRecursion P xs
   all_from_in P [] h = tt
   all_from_in P (x ∷ xs) h = (h x (inl refl), all_from_in P xs (λ y i. h y (inr i)))
 

@@ -1,6 +1,6 @@
 -- What two rows joined give: the best of what their common hubs offer. Assumes nothing.
 use Rattle.std.proofs.Common.{◌≡◌, ℕ, not, eqb, List, [], ◌∷◌, Some, None, Option, sym, refl, ap, ◌∙◌, subst, inl, inr, ⊎_elim}
-use Rattle.std.specs.List.{AllByRecursion as All}
+use Rattle.std.specs.List.{AllByRecursion}
 use Rattle.std.proofs.lemmas.Bool.{eqb-true, eqb-false, not-true, cond_both}
 use Rattle.measure.specs.Scale.{Scale, Value, Laws, NoWorse}
 use Rattle.network.specs.Lists.{In}
@@ -13,7 +13,7 @@ abbrev pub offered : Scale → List Entry → Entry → ℕ
 offered s q e = s.join e.worth (value_at s q e.hub)
 
 abbrev pub AllValues : Scale → List Entry → Type 0
-AllValues s p = All (λ e. Value s e.worth) p
+AllValues s p = AllByRecursion (λ e. Value s e.worth) p
 
 -- an offer is the best: an entry of the first row makes it, it is not none, and no entry makes a better one
 pub record IsTheBestOffer (s : Scale) (p q : List Entry) (o : Entry) : Type 0 where

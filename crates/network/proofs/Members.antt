@@ -1,6 +1,6 @@
 -- The junctions of a district as a list: they ascend, and all of them stand in it. Assumes nothing.
 use Rattle.std.proofs.Common.{◌≡◌, ℕ, zero, suc, ◌<◌, Bool, eqb, List, [], ◌∷◌, length, get_or, filter, ⊎_elim, arith}
-use Rattle.std.specs.List.{AllByRecursion as All}
+use Rattle.std.specs.List.{AllByRecursion}
 use Rattle.std.proofs.lemmas.Bool.{cond_both, cases_order}
 use Rattle.std.proofs.ByRecursion.{All-get_or, all_kept_by}
 use Rattle.network.specs.Lists.{count_up}
@@ -13,7 +13,7 @@ use Rattle.network.proofs.RowRanks.{Rises}
 -- each number is below all that follow it
 abbrev pub Climbs : List ℕ → Type 0
 Climbs [] = Unit {0}
-Climbs (x ∷ xs) = All (λ y. x < y) xs × Climbs xs
+Climbs (x ∷ xs) = AllByRecursion (λ y. x < y) xs × Climbs xs
 
 pub climbs_rises : (xs : List ℕ) → Climbs xs → Rises (λ i. get_or xs i 0) (length xs)
 climbs_rises [] c i j h k = absurd (omega arith)

@@ -1,6 +1,6 @@
 -- The entries of a row over any distance and any list of hubs. Assumes nothing.
 use Rattle.std.proofs.Common.{◌≡◌, ℕ, ◌<◌, ◌⊎◌, List, length, sym, ◌∙◌, subst, inl, inr, ⊎_elim, arith}
-use Rattle.std.specs.List.{AllByRecursion as All}
+use Rattle.std.specs.List.{AllByRecursion}
 use Rattle.std.proofs.ByRecursion.{All-weaker}
 use Rattle.measure.specs.Scale.{Scale, Value}
 use Rattle.network.specs.Lists.{In}
@@ -44,7 +44,7 @@ module _ (s : Scale) (d : ℕ → ℕ → ℕ) (name : ℕ → ℕ) (hubs : List
       (subst (In (entry (name i) (cell_at s d hubs v i))) (sym (row_is_collected s d name hubs v)) there)
 
   -- with the values of d, a row's values are values other than none
-  pub row_is_proper : ((u w : ℕ) → Value s (d u w)) → All (λ e. Proper s e.worth) (row s d name hubs v)
+  pub row_is_proper : ((u w : ℕ) → Value s (d u w)) → AllByRecursion (λ e. Proper s e.worth) (row s d name hubs v)
   row_is_proper value =
       all_from_in (λ e. Proper s e.worth) (row s d name hubs v)
       (λ e h. let r = in_row e h in

@@ -1,6 +1,6 @@
 -- Rows by rank: what a row has under each hub, and that its hubs ascend. Assumes nothing.
 use Rattle.std.proofs.Common.{◌≡◌, ℕ, zero, suc, ◌+◌, ◌<◌, ◌≤◌, eqb, List, [], ◌∷◌, ◌++◌, length, sym, refl, ap, ◌∙◌, subst, inl, inr, ⊎_elim, append_assoc, add-one, arith}
-use Rattle.std.specs.List.{AllByRecursion as All}
+use Rattle.std.specs.List.{AllByRecursion}
 use Rattle.std.proofs.lemmas.List.{take_at, get_or_at, length_push}
 use Rattle.std.proofs.lemmas.Bool.{cases_eq, cases_order, eqb-true, eqb-false, eq-eqb, ne_eqb, cond-true, cond-false, cond_both}
 use Rattle.measure.specs.Scale.{Scale}
@@ -19,7 +19,7 @@ abbrev pub Rises : (ℕ → ℕ) → ℕ → Type 0
 Rises name n = (i j : ℕ) → i < j → j < n → name i < name j
 
 -- an entry in front of a row with greater hubs
-pub ascends_in_front : (e : Entry) (es : List Entry) → All (λ f. e.hub < f.hub) es → Ascends es → Ascends (e ∷ es)
+pub ascends_in_front : (e : Entry) (es : List Entry) → AllByRecursion (λ f. e.hub < f.hub) es → Ascends es → Ascends (e ∷ es)
 ascends_in_front e [] h a = tt
 ascends_in_front e (f ∷ es) h a = (h.0, a)
 

@@ -1,6 +1,6 @@
 -- A road network cut into districts, its arcs, and its borders. Assumes nothing.
 use Rattle.std.specs.Prelude.{◌≡◌, ℕ, ◌-◌, ◌<◌, ◌≤◌, Bool, true, false, cond, not, ◌&&◌, ◌||◌, List, [], ◌∷◌, length, filter, ◌==◌, slice_index}
-use Rattle.std.specs.List.{AllByRecursion as All}
+use Rattle.std.specs.List.{AllByRecursion}
 use Rattle.measure.specs.Scale.{Scale, Lawful}
 use Rattle.network.specs.Lists.{In, Distinct, count_up}
 use Rattle.network.specs.Walks.{Arc, arc, best_within}
@@ -36,8 +36,8 @@ pub record SoundRoad (s : Scale) (net : Network) (r : Road) : Type 0 where
 
 pub record Sound (s : Scale) (net : Network) : Type 0 where
   pub every_junction_has_a_district : length net.places ≡ net.junctions
-  pub districts_are_below_their_number : All (λ d. d < net.districts) net.places
-  pub roads_are_sound : All (SoundRoad s net) net.roads
+  pub districts_are_below_their_number : AllByRecursion (λ d. d < net.districts) net.places
+  pub roads_are_sound : AllByRecursion (SoundRoad s net) net.roads
 
 -- the arcs of a list of roads: two for each open road, one each way
 abbrev pub arcs_of : List Road → List Arc
@@ -71,6 +71,6 @@ borders net = filter (is_border net) (count_up 1 net.junctions)
 
 -- a border order: each border stands in it once, and nothing else does
 pub record BorderOrder (net : Network) (order : List ℕ) : Type 0 where
-  pub holds_borders_alone : All (λ v. is_border net v ≡ true) order
+  pub holds_borders_alone : AllByRecursion (λ v. is_border net v ≡ true) order
   pub holds_every_border : (v : ℕ) → is_border net v ≡ true → In v order
   pub holds_none_twice : Distinct order

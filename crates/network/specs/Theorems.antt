@@ -1,6 +1,6 @@
 -- What is proved of walks, best values and rows, for every measure s. Assumes nothing.
 use Rattle.std.specs.Prelude.{◌≡◌, ℕ, ◌<◌, ◌≤◌, true, ◌⊎◌, List, length, take, Some, None, Option, ◌≢◌, slice_index}
-use Rattle.std.specs.List.{AllByRecursion as All}
+use Rattle.std.specs.List.{AllByRecursion}
 use Rattle.measure.specs.Scale.{Scale, Value, NoWorse}
 use Rattle.network.specs.Lists.{In}
 use Rattle.network.specs.Walks.{Arc, Walk, walk_value, Walked, BestOf, Best}
@@ -114,8 +114,8 @@ Proper s x = Value s x × (x ≢ s.none)
 -- Rows ascend strictly by rank or hub, and their values are values other than none.
 pub record RowsAscend (s : Scale) (net : Network) (order : List ℕ) : Type 0 where
   pub border_ranks_ascend : (v : ℕ) → Ascends (border_row_lem s net order v)
-  pub border_ranks_are_below : (v : ℕ) → All (λ e. e.hub < length order) (border_row_lem s net order v)
-  pub border_values_are_proper : (v : ℕ) → All (λ e. Proper s e.worth) (border_row_lem s net order v)
+  pub border_ranks_are_below : (v : ℕ) → AllByRecursion (λ e. e.hub < length order) (border_row_lem s net order v)
+  pub border_values_are_proper : (v : ℕ) → AllByRecursion (λ e. Proper s e.worth) (border_row_lem s net order v)
   pub district_hubs_ascend : (v : ℕ) → Ascends (district_row_lem s net v)
-  pub district_hubs_are_members : (v : ℕ) → All (λ e. Junction net e.hub × (district net e.hub ≡ district net v)) (district_row_lem s net v)
-  pub district_values_are_proper : (v : ℕ) → All (λ e. Proper s e.worth) (district_row_lem s net v)
+  pub district_hubs_are_members : (v : ℕ) → AllByRecursion (λ e. Junction net e.hub × (district net e.hub ≡ district net v)) (district_row_lem s net v)
+  pub district_values_are_proper : (v : ℕ) → AllByRecursion (λ e. Proper s e.worth) (district_row_lem s net v)

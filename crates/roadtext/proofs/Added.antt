@@ -1,6 +1,6 @@
 -- What has been drawn so far, one event more, and that none is refused. Assumes nothing.
 use Rattle.std.proofs.Common.{◌≡◌, ℕ, ◌+◌, ◌≤◌, false, cond, not, ◌||◌, ltb, leb, List, [], ◌∷◌, ◌++◌, length, set, Ok, Err, Result, sym, refl, ap, ◌∙◌, subst, arith, length-append, eq-eqb}
-use Rattle.std.specs.List.{AllByRecursion as All}
+use Rattle.std.specs.List.{AllByRecursion}
 use Rattle.std.proofs.lemmas.Bool.Decides.{nat_tests}
 use Rattle.measure.specs.Scale.{Scale}
 use Rattle.drawing.specs.Outcomes.{Check, verdict, Ends}
@@ -24,7 +24,7 @@ ends_ok (Ok u) a same done h = h
 ends_ok (Err x) a same done h = absurd (let e = h.0 in let q : ◌≡◌ {A = ℕ} 0 1 = cc in omega arith)
 
 -- a call whose checks all pass is not refused
-ends_accepted : {A : Type 0} (cs : List Check) (x : Refusal) (same : Type 0) (done : A → Type 0) → All (λ c. c.fails ≡ false) cs → Ends (verdict cs) (Err x) same done → ⊥
+ends_accepted : {A : Type 0} (cs : List Check) (x : Refusal) (same : Type 0) (done : A → Type 0) → AllByRecursion (λ c. c.fails ≡ false) cs → Ends (verdict cs) (Err x) same done → ⊥
 ends_accepted [] x same done h e = e
 ends_accepted (c ∷ cs) x same done h e =
     ends_accepted cs x same done h.1 (subst (λ b. Ends (cond b (Err c.refusal) (verdict cs)) (Err x) same done) h.0 e)

@@ -1,6 +1,6 @@
 -- Lists of checks of a line: what a list says of another value, and of a longer list. Assumes nothing.
 use Rattle.std.proofs.Common.{◌≡◌, ℕ, Bool, true, false, cond, List, [], ◌∷◌, ◌++◌, IsErrAnd, IfOk, Ok, Err, Result, sym, refl, ap, ◌∙◌, arith}
-use Rattle.std.specs.List.{AllByRecursion as All}
+use Rattle.std.specs.List.{AllByRecursion}
 use Rattle.std.proofs.lemmas.Result.{err_from_is_err_and}
 use Rattle.roadtext.specs.declared.parts.LineFault.{LineFault}
 use Rattle.roadtext.specs.Lines.{Check, check, passed}
@@ -67,10 +67,10 @@ passed_gives (c ∷ cs) z P h =
     h
 
 -- where a list of checks passes, each of them does
-pub each_passes : {A : Type 0} (cs : List Check) (z : A) → Ok z ≡ passed cs z → All (λ c. c.fails ≡ false) cs
+pub each_passes : {A : Type 0} (cs : List Check) (z : A) → Ok z ≡ passed cs z → AllByRecursion (λ c. c.fails ≡ false) cs
 each_passes [] z h = tt
 each_passes (c ∷ cs) z h =
     elim c.fails
-    as (λ b. Ok z ≡ cond b (Err (record { field = c.field_number; cause = c.cause })) (passed cs z) → (b ≡ false) × All (λ c. c.fails ≡ false) cs)
+    as (λ b. Ok z ≡ cond b (Err (record { field = c.field_number; cause = c.cause })) (passed cs z) → (b ≡ false) × AllByRecursion (λ c. c.fails ≡ false) cs)
     [ true ↦ λ e. absurd (let q : ◌≡◌ {A = ℕ} 0 1 = cc in omega arith) | false ↦ λ e. (refl, each_passes cs z e) ]
     h

@@ -1,6 +1,6 @@
 -- A number below 10 ^ 10, written in decimal, is read back. Assumes nothing.
 use Rattle.std.proofs.Common.{◌≡◌, ℕ, ◌^◌, ◌<◌, true, ◌&&◌, List, [], ◌∷◌, map, length, Some, None, decimal, ap, ◌∙◌, arith, rules}
-use Rattle.std.specs.List.{AllByRecursion as All}
+use Rattle.std.specs.List.{AllByRecursion}
 use Rattle.std.proofs.lemmas.Fmt.{length-decimal-le, decimal_nonempty, digits_decimal, digits_value-decimal}
 use Rattle.std.proofs.lemmas.Str.Parse.{IsNumeralModel, numerals_by_fold}
 use Rattle.std.proofs.lemmas.Bool.{and_from, and_parts, cond-true, leb-true}
@@ -34,6 +34,6 @@ digits_lack byte low (d ∷ ds) h =
 pub decimal_lacks : (byte n : ℕ) → byte < 48 → n < 10 ^ 10 → Lacks byte (decimal n)
 decimal_lacks byte n low small = digits_lack byte low (decimal n) (decimal_has_digits n small)
 
-pub decimals_lack : (byte : ℕ) → byte < 48 → (ns : List ℕ) → All (λ n. n < 10 ^ 10) ns → All (Lacks byte) (map decimal ns)
+pub decimals_lack : (byte : ℕ) → byte < 48 → (ns : List ℕ) → AllByRecursion (λ n. n < 10 ^ 10) ns → AllByRecursion (Lacks byte) (map decimal ns)
 decimals_lack byte low [] t = tt
 decimals_lack byte low (n ∷ ns) (h, t) = (decimal_lacks byte n low h, decimals_lack byte low ns t)

@@ -1,6 +1,6 @@
 -- The written roads, moves and asks are read, each kind one after the other, and comments are passed over. Assumes nothing.
 use Rattle.std.proofs.Common.{◌≡◌, ℕ, ◌+◌, ◌-◌, ◌*◌, ◌≤◌, Bool, true, false, cond, not, eqb, List, [], ◌∷◌, ◌++◌, length, sym, refl, ap, ◌∙◌, subst, ap₂, ⊎_elim, append_assoc, append-nil, arith, length-append}
-use Rattle.std.specs.List.{AllByRecursion as All}
+use Rattle.std.specs.List.{AllByRecursion}
 use Rattle.std.proofs.lemmas.Bool.{cases_Bool, cond-false, ne_eqb}
 use Rattle.measure.specs.Scale.{Scale}
 use Rattle.roadtext.specs.declared.parts.Arc.{Arc}
@@ -64,7 +64,7 @@ module _ (s : Scale) (room : Room) where
   module _ (n : ℕ) (few : n ≤ 4096) where
     pub roads_are_read :
         (todo done : List Arc) (k : ℕ) → k ≡ 2 * length todo → length done + length todo ≤ 16384
-        → length done + length todo ≤ room.records → All (WritableRoad s n) todo
+        → length done + length todo ≤ room.records → AllByRecursion (WritableRoad s n) todo
         → Reads s room (reading (arcs_to_come_lem k) n done [] []) (arc_lines todo) (reading Tail n (done ++ todo) [] [])
     roads_are_read [] done k e h j t =
         no_line (ap₂ (λ stage roads. reading stage n roads [] []) (ap arcs_to_come_lem e) (sym (append-nil done)))
@@ -80,7 +80,7 @@ module _ (s : Scale) (room : Room) where
 
     module _ (roads : List Arc) where
       pub moves_are_read :
-          (todo done : List Two) → All (WritableMove n) todo
+          (todo done : List Two) → AllByRecursion (WritableMove n) todo
           → Reads s room (reading Tail n roads done []) (move_lines todo) (reading Tail n roads (done ++ todo) [])
       moves_are_read [] done t = no_line (ap (λ x. reading Tail n roads x []) (sym (append-nil done)))
       moves_are_read (m ∷ rest) done (h, t) =
@@ -89,7 +89,7 @@ module _ (s : Scale) (room : Room) where
 
       module _ (moves : List Two) where
         asks_are_read :
-            (todo done : List Two) → All (WritableAsk n) todo
+            (todo done : List Two) → AllByRecursion (WritableAsk n) todo
             → Reads s room (reading Asks n roads moves done) (ask_lines todo) (reading Asks n roads moves (done ++ todo))
         asks_are_read [] done t = no_line (ap (λ x. reading Asks n roads moves x) (sym (append-nil done)))
         asks_are_read (q ∷ rest) done (h, t) =
@@ -98,7 +98,7 @@ module _ (s : Scale) (room : Room) where
 
         -- at a stage that awaits no `p` line and no arc
         pub all_asks_are_read :
-            (asks : List Two) → All (WritableAsk n) asks
+            (asks : List Two) → AllByRecursion (WritableAsk n) asks
             → (stage : Stage) × (awaits stage ≡ false)
             × Reads s room (reading Tail n roads moves []) (ask_lines asks) (reading stage n roads moves asks)
         all_asks_are_read [] t = (Tail, refl, no_line refl)

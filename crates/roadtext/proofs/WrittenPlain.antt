@@ -1,6 +1,6 @@
 -- Written lines have no byte 10, and are no comments. Assumes nothing.
 use Rattle.std.proofs.Common.{◌≡◌, ℕ, ◌*◌, ◌^◌, ◌<◌, ◌≤◌, false, cond, not, ◌⊎◌, List, [], ◌∷◌, ◌++◌, map, length, decimal, refl, ap, ◌∙◌, inl, inr, arith}
-use Rattle.std.specs.List.{AllByRecursion as All}
+use Rattle.std.specs.List.{AllByRecursion}
 use Rattle.std.proofs.ByRecursion.{All-append, All-map, All-weaker}
 use Rattle.std.proofs.lemmas.Bool.{ne_eqb}
 use Rattle.measure.specs.Scale.{Scale}
@@ -17,7 +17,7 @@ abbrev Plain : List ℕ → Type 0
 Plain line = Lacks 10 line × (is_comment (fields line) ≡ false)
 
 letter_line_is_plain :
-    (letter : ℕ) → 99 < letter ⊎ letter ≡ 97 → (ns : List ℕ) → All (λ n. n < 10 ^ 10) ns → Plain (spaced (letter ∷ []) (map decimal ns))
+    (letter : ℕ) → 99 < letter ⊎ letter ≡ 97 → (ns : List ℕ) → AllByRecursion (λ n. n < 10 ^ 10) ns → Plain (spaced (letter ∷ []) (map decimal ns))
 letter_line_is_plain letter other ns small = (
   spaced_lacks 10 (λ e. omega arith) (letter ∷ []) (map decimal ns)
       (letter_line_lacks 10 letter (omega arith) (λ e. omega arith) ns small),
@@ -31,7 +31,7 @@ head_is_plain n a h k =
       ap is_comment (fields_of_spaced (112 ∷ []) rest (head_line_lacks 32 (omega arith) n a h k)),
     )
 
-arcs_are_plain : (s : Scale) (n : ℕ) → n ≤ 4096 → (roads : List Arc) → All (WritableRoad s n) roads → All Plain (arc_lines roads)
+arcs_are_plain : (s : Scale) (n : ℕ) → n ≤ 4096 → (roads : List Arc) → AllByRecursion (WritableRoad s n) roads → AllByRecursion Plain (arc_lines roads)
 arcs_are_plain s n few [] t = tt
 arcs_are_plain s n few (a ∷ more) (h, t) = (
   letter_line_is_plain 97 (inr refl) (a.from ∷ a.to ∷ a.worth ∷ []) (omega arith, (omega arith, (omega arith, tt))),
@@ -42,27 +42,27 @@ arcs_are_plain s n few (a ∷ more) (h, t) = (
 )
 
 -- comments taken out of lines of which none is one
-nothing_taken_out : (ls : List (List ℕ)) → All Plain ls → without_comments ls ≡ ls
+nothing_taken_out : (ls : List (List ℕ)) → AllByRecursion Plain ls → without_comments ls ≡ ls
 nothing_taken_out [] t = refl
 nothing_taken_out (line ∷ ls) (h, t) =
     ap (λ b. cond (not b) (line ∷ without_comments ls) (without_comments ls)) h.1 ∙ ap (λ x. line ∷ x) (nothing_taken_out ls t)
 
 module _ (s : Scale) (room : Room) (n : ℕ) (roads : List Arc) (moves asks : List Two) (w : Writable s room n roads moves asks) where
-  moves_are_plain : All Plain (move_lines moves)
+  moves_are_plain : AllByRecursion Plain (move_lines moves)
   moves_are_plain =
       All-map Plain (λ m. move_line_lem m.left m.right) moves
       (All-weaker (WritableMove n) (λ m. Plain (move_line_lem m.left m.right))
       (λ m h. letter_line_is_plain 100 (inl (omega arith)) (m.left ∷ m.right ∷ []) (omega arith, (omega arith, tt)))
       moves w.each_move)
 
-  asks_are_plain : All Plain (ask_lines asks)
+  asks_are_plain : AllByRecursion Plain (ask_lines asks)
   asks_are_plain =
       All-map Plain (λ q. ask_line q.left q.right) asks
       (All-weaker (WritableAsk n) (λ q. Plain (ask_line q.left q.right))
       (λ q h. letter_line_is_plain 113 (inl (omega arith)) (q.left ∷ q.right ∷ []) (omega arith, (omega arith, tt)))
       asks w.each_ask)
 
-  all_are_plain : All Plain (written_lines n roads moves asks)
+  all_are_plain : AllByRecursion Plain (written_lines n roads moves asks)
   all_are_plain = (
     head_is_plain n (2 * length roads) (omega arith) (omega arith),
     All-append Plain (arc_lines roads) (move_lines moves ++ ask_lines asks)
@@ -70,7 +70,7 @@ module _ (s : Scale) (room : Room) (n : ℕ) (roads : List Arc) (moves asks : Li
         (All-append Plain (move_lines moves) (ask_lines asks) moves_are_plain asks_are_plain),
   )
 
-  pub written_lines_lack_line_ends : All (Lacks 10) (written_lines n roads moves asks)
+  pub written_lines_lack_line_ends : AllByRecursion (Lacks 10) (written_lines n roads moves asks)
   written_lines_lack_line_ends = All-weaker Plain (Lacks 10) (λ line h. h.0) (written_lines n roads moves asks) all_are_plain
 
   pub no_written_line_is_a_comment : without_comments (written_lines n roads moves asks) ≡ written_lines n roads moves asks

@@ -1,6 +1,6 @@
 -- That the fault which reading a text gives is the text's first, and that a text which is read has none. Assumes nothing.
 use Rattle.std.specs.Prelude.{◌≡◌, ℕ, ◌+◌, ◌<◌, ◌≤◌, Bool, true, false, cond, ◌⊎◌, List, [], ◌∷◌, ◌++◌, length, Ok, Err}
-use Rattle.std.specs.List.{AllByRecursion as All}
+use Rattle.std.specs.List.{AllByRecursion}
 use Rattle.measure.specs.Scale.{Scale}
 use Rattle.roadtext.specs.declared.parts.Stage.{Stage}
 use Rattle.roadtext.specs.declared.parts.Stage.TheVariants.{Head, Arc as ArcAwaited, Twin, Tail, Asks}
@@ -23,7 +23,7 @@ with_lines st (line ∷ rest) = with_lines (with_line st line) rest
 
 -- no check fails
 abbrev pub AllPass : List Check → Type 0
-AllPass checks = All (λ c. c.fails ≡ false) checks
+AllPass checks = AllByRecursion (λ c. c.fails ≡ false) checks
 
 -- no line has a fault, where st had been read before the first
 abbrev pub NoFault : Scale → Room → State → List (List ℕ) → Type 0

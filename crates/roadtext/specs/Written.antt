@@ -1,7 +1,7 @@
 -- That a network within the limits and its asks, written out as a text of at most 65,536 bytes, are read back, whatever
 -- comments stand between the lines. Assumes nothing.
 use Rattle.std.specs.Prelude.{◌≡◌, ℕ, ◌*◌, ◌^◌, ◌<◌, ◌≤◌, not, List, [], ◌∷◌, ◌++◌, map, length, Ok, decimal, filter, ◌≢◌}
-use Rattle.std.specs.List.{AllByRecursion as All}
+use Rattle.std.specs.List.{AllByRecursion}
 use Rattle.measure.specs.Scale.{Scale, Lawful}
 use Rattle.roadtext.specs.declared.parts.Arc.{Arc}
 use Rattle.roadtext.specs.declared.parts.Two.{Two}
@@ -52,7 +52,7 @@ text_of (line ∷ rest) = line ++ (10 ∷ text_of rest)
 
 -- the byte is not in the list
 abbrev pub Lacks : ℕ → List ℕ → Type 0
-Lacks byte bs = All (λ b. b ≢ byte) bs
+Lacks byte bs = AllByRecursion (λ b. b ≢ byte) bs
 
 -- the lines that are no comments
 abbrev pub without_comments : List (List ℕ) → List (List ℕ)
@@ -85,9 +85,9 @@ pub record Writable (s : Scale) (room : Room) (n : ℕ) (roads : List Arc) (move
   pub enough_places : n ≤ room.places
   pub few_roads : length roads ≤ 16384
   pub enough_records : length roads ≤ room.records
-  pub each_road : All (WritableRoad s n) roads
-  pub each_move : All (WritableMove n) moves
-  pub each_ask : All (WritableAsk n) asks
+  pub each_road : AllByRecursion (WritableRoad s n) roads
+  pub each_move : AllByRecursion (WritableMove n) moves
+  pub each_ask : AllByRecursion (WritableAsk n) asks
 
 -- what has been read is this network and these asks
 pub record IsRead (s : Scale) (room : Room) (text : List ℕ) (n : ℕ) (roads : List Arc) (moves asks : List Two) : Type 0 where
@@ -104,6 +104,6 @@ pub record ReadsBack (s : Scale) (room : Room) (n : ℕ) (roads : List Arc) (mov
   pub is_read_back :
       (text : List ℕ) → length text ≤ 65536 → without_comments (lines text) ≡ written_lines n roads moves asks
       → IsRead s room text n roads moves asks
-  pub lines_make_a_text : (ls : List (List ℕ)) → All (Lacks 10) ls → lines (text_of ls) ≡ ls
-  pub written_lines_are_lines : All (Lacks 10) (written_lines n roads moves asks)
+  pub lines_make_a_text : (ls : List (List ℕ)) → AllByRecursion (Lacks 10) ls → lines (text_of ls) ≡ ls
+  pub written_lines_are_lines : AllByRecursion (Lacks 10) (written_lines n roads moves asks)
   pub written_lines_are_no_comments : without_comments (written_lines n roads moves asks) ≡ written_lines n roads moves asks
