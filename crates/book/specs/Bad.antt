@@ -1,5 +1,5 @@
 -- What makes a word of a book bad, given the words before it. Assumes nothing.
-use Rattle.std.specs.Prelude.{◌≡◌, ℕ, ◌+◌, ◌-◌, ◌*◌, ◌/◌, ◌%◌, ◌<◌, ◌≤◌, Bool, true, false, cond, not, ◌&&◌, ◌||◌, leb, List, [], ◌∷◌, ◌++◌, length, take, Some, None, filter, Option, ◌==◌, nat_le, nat_lt, slice_index_or}
+use Rattle.std.specs.Prelude.{◌≡◌, ℕ, ◌+◌, ◌-◌, ◌*◌, ◌/◌, ◌%◌, ◌<◌, ◌≤◌, Bool, true, false, cond, not, ◌&&◌, ◌||◌, nat_le, List, [], ◌∷◌, ◌++◌, length, take, Some, None, filter, Option, ◌==◌, nat_lt, slice_index_or}
 use Rattle.measure.specs.Scale.{Scale}
 use Rattle.drawing.specs.Edits.{within}
 use Rattle.book.specs.declared.counts.Counts.{Counts}
@@ -75,7 +75,7 @@ begins_a_row ws c names e = among e (words_in (offsets_at c names) ws)
 
 -- the junction whose row entry number e is in: as many offsets are at most e
 abbrev pub row_of : List ℕ → Counts → Names → ℕ → ℕ
-row_of ws c names e = length (filter (λ o. leb o e) (words_in (offsets_at c names) ws))
+row_of ws c names e = length (filter (λ o. nat_le o e) (words_in (offsets_at c names) ws))
 
 -- a name of a hub is right in the row of junction v: a rank is below the number of borders, and a hub of a district row is a
 -- junction of the same district as v

@@ -44,7 +44,7 @@ module _ (s : Scale) (arcs : List Arc) (d : ℕ → ℕ → ℕ) (walks : WalkDi
           both_ways = λ u v. laws.no_worse_both_ways_is_equal (d u v) (d v u) (values u v) (values v u) (one_way u v) (one_way v u);
         }
 
--- For what is computed, with as many arcs as few-arcs-suffice asks for.
+-- For what is computed, with as many arcs as `few_arcs_suffice` asks for.
 module _ (s : Scale) (laws : Laws s) (arcs : List Arc) (worths : (a : Arc) → In a arcs → Value s a.worth)
     (all : List ℕ) (ends : (a : Arc) → In a arcs → In a.from all × In a.to all) (k : ℕ) (enough : length all ≤ suc k) where
   no_walk_beats_within : (u v : ℕ) (w : List Arc) → Walk arcs u v w → NoWorse s (best_within s arcs k u v) (walk_value s w)

@@ -31,7 +31,7 @@ Outside s net k v w =
 
 module _ (s : Scale) (laws : Laws s) (net : Network) (sound : Sound s net)
     (dist : Distance s (best s net)) (walks : WalkDistance s (arcs net) (best s net))
-    (no_Walk : (u v : ℕ) → best s net u v ≡ s.none → NoWalk net u v)
+    (no_walk : (u v : ℕ) → best s net u v ≡ s.none → NoWalk net u v)
     (k : ℕ) where
   worths : (a : Arc) → In a (arcs net) → Value s a.worth
   worths = arc_worths_are_values s laws net sound
@@ -87,7 +87,7 @@ module _ (s : Scale) (laws : Laws s) (net : Network) (sound : Sound s net)
               to_is_a_border = c_border;
               to_is_here = c_here;
               ends_differ = differ;
-              is_reached = λ e. no_Walk b c e p before;
+              is_reached = λ e. no_walk b c e p before;
             }),
             refl,
             r.1,
@@ -167,7 +167,7 @@ module _ (s : Scale) (laws : Laws s) (net : Network) (sound : Sound s net)
     pub best_is_best_in_the_district : Best s (district_arcs s net k) u v (best s net u v)
     best_is_best_in_the_district =
         ⊎_elim
-        (λ e. inr (λ y t. let r = walked_in_the_network u v y t in no_Walk u v e r.0 r.1, e))
+        (λ e. inr (λ y t. let r = walked_in_the_network u v y t in no_walk u v e r.0 r.1, e))
         (λ t. inl (t, best_is_no_worse))
         best_is_reached
 

@@ -39,9 +39,9 @@ module _ (s : Scale) (laws : Laws s) (net : Network) (allowed : Allowed s net) w
   district_best_is_best k u v u_junction v_junction u_is_here v_is_here =
       let dist = best_distance s laws net allowed in
       let walks = best_walks s laws net allowed in
-      let no_Walk = no_walk_where_none s laws net allowed in (
-        best_is_best_in_the_district s laws net allowed.sound dist walks no_Walk k u v u_is_here v_is_here,
-        district_best_is_the_best s laws net allowed.sound dist walks no_Walk k u v u_is_here v_is_here
+      let no_walk = no_walk_where_none s laws net allowed in (
+        best_is_best_in_the_district s laws net allowed.sound dist walks no_walk k u v u_is_here v_is_here,
+        district_best_is_the_best s laws net allowed.sound dist walks no_walk k u v u_is_here v_is_here
             (district_distance k).is_a_value (district_walks k),
       )
 

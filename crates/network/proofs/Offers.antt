@@ -43,7 +43,7 @@ last_entry net k x v (a ∷ w) here (i, e, h) =
 
 module _ (s : Scale) (laws : Laws s) (net : Network) (sound : Sound s net)
     (dist : Distance s (best s net)) (walks : WalkDistance s (arcs net) (best s net))
-    (no_Walk : (u v : ℕ) → best s net u v ≡ s.none → NoWalk net u v) where
+    (no_walk : (u v : ℕ) → best s net u v ≡ s.none → NoWalk net u v) where
   worths : (a : Arc) → In a (arcs net) → Value s a.worth
   worths = arc_worths_are_values s laws net sound
 
@@ -82,7 +82,7 @@ module _ (s : Scale) (laws : Laws s) (net : Network) (sound : Sound s net)
       let vx = dist.is_a_value u b in
       let y = s.join x (walk_value s q) in
       let offered : Offered s net k u v y =
-      (b, x, inr (cut.fits.0, cut.fits.1, refl, λ none. no_Walk u b none p hp), (q, cut.walk_after, refl)) in
+      (b, x, inr (cut.fits.0, cut.fits.1, refl, λ none. no_walk u b none p hp), (q, cut.walk_after, refl)) in
       let parts : s.join (walk_value s p) (walk_value s q) ≡ best s net u v =
       sym (value_of_walks_joined s laws (arcs net) worths u b v p q hp hq) ∙ ap (walk_value s) (sym cut.is_cut) ∙ e in
       let as_good : NoWorse s y (best s net u v) =
@@ -97,6 +97,6 @@ module _ (s : Scale) (laws : Laws s) (net : Network) (sound : Sound s net)
   pub offers_give_best_lem : OffersGiveBest s net
   offers_give_best_lem k u v u_junction v_junction u_is_here v_is_here =
       ⊎_elim
-      (λ e. inr (λ y o. let t = offered_is_walked k u v y o in no_Walk u v e t.0 t.1, e))
+      (λ e. inr (λ y o. let t = offered_is_walked k u v y o in no_walk u v e t.0 t.1, e))
       (λ t. inl (best_is_offered k u v v_is_here t, offered_is_no_better k u v))
       (walks.reached u v)

@@ -37,8 +37,8 @@ pub giving_answers :
     (s : Scale) (net : Network) → WalkDistance s (arcs net) (best s net)
     → ((u v : ℕ) → best s net u v ≡ s.none → NoWalk net u v)
     → (u v : ℕ) (m : Option Entry) → Gives s (best s net u v) m → Answers s net u v m
-giving_answers s net walks no_Walk u v None g = no_Walk u v g
-giving_answers s net walks no_Walk u v (Some e) g = (
+giving_answers s net walks no_walk u v None g = no_walk u v g
+giving_answers s net walks no_walk u v (Some e) g = (
   ⊎_elim (λ z. absurd (g.1 z)) (λ w. (w.0, w.1, w.2 ∙ sym g.0)) (walks.reached u v),
   λ y w. rw (g.0, ← w.2) (walks.no_walk_is_better u v w.0 w.1),
 )
@@ -47,8 +47,8 @@ module _ (s : Scale) (laws : Laws s) (net : Network) (order : List ℕ) (dist : 
   pub border_rows_answer_lem :
       WalkDistance s (arcs net) (best s net) → ((u v : ℕ) → best s net u v ≡ s.none → NoWalk net u v)
       → OrderCovers s net order → BorderRowsAnswer s net order
-  border_rows_answer_lem walks no_Walk covers u v ju jv apart =
-      giving_answers s net walks no_Walk u v (meet s (border_row_lem s net order u) (border_row_lem s net order v))
+  border_rows_answer_lem walks no_walk covers u v ju jv apart =
+      giving_answers s net walks no_walk u v (meet s (border_row_lem s net order u) (border_row_lem s net order v))
       (two_rows_give s laws (best s net) dist (λ i. i) order (ranks_rise (length order)) u v covered)
     where
       covered : NoneOrCovered s (best s net) order u v
@@ -95,9 +95,9 @@ module _ (s : Scale) (laws : Laws s) (net : Network) (dist : (k : ℕ) → Dista
       WalkDistance s (arcs net) (best s net) → ((u v : ℕ) → best s net u v ≡ s.none → NoWalk net u v)
       → (u v : ℕ) → Junction net u → Junction net v → district net u ≡ district net v
       → Answers s net u v (meet s (district_row_lem s net u) (district_row_lem s net v))
-  district_rows_joined walks no_Walk u v ju jv e =
+  district_rows_joined walks no_walk u v ju jv e =
       let k : ℕ = district net v in
-      giving_answers s net walks no_Walk u v (meet s (district_row_lem s net u) (district_row_lem s net v))
+      giving_answers s net walks no_walk u v (meet s (district_row_lem s net u) (district_row_lem s net v))
       (subst (λ x. Gives s x (meet s (district_row_lem s net u) (district_row_lem s net v))) (agrees k u v ju jv e refl)
       (subst (λ p. Gives s (district_best s net k u v) (meet s p (district_row_lem s net v))) (sym (district_row_at s net k u e))
       (two_rows_give s laws (district_best s net k) (dist k) (λ i. get_or (members net k) i 0) (members net k) (members_rise net k) u v

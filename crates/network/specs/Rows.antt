@@ -1,5 +1,5 @@
 -- Border rows, shortcuts, the network of a district, and district rows. Assumes nothing.
-use Rattle.std.specs.Prelude.{ℕ, ◌-◌, Bool, cond, ◌&&◌, List, [], ◌∷◌, ◌++◌, filter, ◌==◌, nat_eq, slice_index}
+use Rattle.std.specs.Prelude.{ℕ, ◌-◌, Bool, cond, ◌&&◌, List, [], ◌∷◌, ◌++◌, filter, ◌==◌, slice_index}
 use Rattle.measure.specs.Scale.{Scale}
 use Rattle.network.specs.Lists.{count_up}
 use Rattle.network.specs.Walks.{Arc, arc, best_within}
@@ -20,7 +20,7 @@ inner_arcs net k = filter (runs_inside net k) (arcs net)
 
 -- the borders of district k, ascending
 abbrev pub borders_of : Network → ℕ → List ℕ
-borders_of net k = filter (λ v. nat_eq (district net v) k) (borders net)
+borders_of net k = filter (λ v. district net v == k) (borders net)
 
 -- the shortcuts from b to junctions of the list: to each other than b, with their best value, unless that is none
 abbrev pub shortcuts_from : Scale → Network → ℕ → List ℕ → List Arc
@@ -48,7 +48,7 @@ district_best s net k = best_within s (district_arcs s net k) (net.junctions - 1
 
 -- the junctions of district k, ascending
 abbrev pub members : Network → ℕ → List ℕ
-members net k = filter (λ v. nat_eq (district net v) k) (count_up 1 net.junctions)
+members net k = filter (λ v. district net v == k) (count_up 1 net.junctions)
 
 -- the district row of v: its hubs are the junctions of its district, named by their numbers
 abbrev pub district_row_lem : Scale → Network → ℕ → List Entry

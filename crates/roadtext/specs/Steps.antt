@@ -1,5 +1,5 @@
 -- One line, seen by a reader that keeps only how far it has come, and what the line adds. Assumes nothing.
-use Rattle.std.specs.Prelude.{◌≡◌, ℕ, ◌+◌, ◌-◌, true, false, not, ◌||◌, leb, List, [], ◌∷◌, ◌++◌, length, IfOk, Ok, Err, Result, nat_eq, nat_le, nat_lt}
+use Rattle.std.specs.Prelude.{◌≡◌, ℕ, ◌+◌, ◌-◌, true, false, not, ◌||◌, ◌==◌, List, [], ◌∷◌, ◌++◌, length, IfOk, Ok, Err, Result, nat_le, nat_lt}
 use Rattle.measure.specs.Scale.{Scale}
 use Rattle.drawing.specs.Edits.{within}
 use Rattle.roadtext.specs.declared.parts.Arc.{Arc}
@@ -80,9 +80,9 @@ pub record Addable (s : Scale) (p : Progress) (a : Arc) : Type 0 where
   pub begun : Begun p.stage
   pub from_within : within 1 p.junctions a.from ≡ true
   pub to_within : within 1 p.junctions a.to ≡ true
-  pub apart : nat_eq a.from a.to ≡ false
+  pub apart : (a.from == a.to) ≡ false
   pub worth_lawful : s.lawful a.worth ≡ true
-  pub room_left : leb 16384 p.roads || nat_le p.records p.roads ≡ false
+  pub room_left : nat_le 16384 p.roads || nat_le p.records p.roads ≡ false
 
 -- a junction that can be moved
 pub record Movable (p : Progress) (m : Two) : Type 0 where
