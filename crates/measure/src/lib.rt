@@ -20,7 +20,7 @@ pub trait Measure {
 
     ghost scale: { Scale };
 
-    // The three constants again, as calls: a contract can name a call's result, and not a constant.
+    // The three constants again, as calls that promise what the scale says: of a constant alone generic code knows nothing.
     fn tag_word() -> u64
         ensures { result ≡ scale.tag };
 
