@@ -14,9 +14,10 @@ import sys
 
 TOKEN = re.compile(r"[^\s(){}\[\],.;⌜⌝`\"]+")
 HYPHEN = re.compile(r"[A-Za-z0-9_']-[A-Za-z0-9_]")
-# names that are written with a hyphen and defined here, but are the check's own (parts of goals, steps and their fields)
-KEEP = re.compile(r"^(invariant|decreases|loop|returns|in|if|then|else|overflow|bounds|offset_bounds|write|from_residual)[-_]")
-OWN_WITH_SUCH_A_HEAD = {"loop-never-helps"}
+# names that are written with a hyphen and bound here, but are the check's own (parts of goals, steps and their fields)
+KEEP = re.compile(r"^(invariant|decreases|loop|returns|overflow|bounds|offset_bounds|from_residual)[-_]")
+# a name of the repository that begins like one of them
+OWN_ALL_THE_SAME = {"loop-never-helps"}
 
 
 def read(path):
@@ -73,21 +74,16 @@ def own_names():
     for path in glob.glob("crates/*/src/**/*.rt", recursive=True):
         for line in re.findall(r"ghost use [^;]*;", read(path)):
             own |= set(re.findall(r" as ([^\s,}]+)", line))
-    return {n for n in own - goals - lib if HYPHEN.search(n) and not n.startswith("-") and (not KEEP.match(n) or keeps_not(n))}
-
-
-def keeps_not(name):
-    """A name of the repository that begins like one of the check's."""
-    return name in OWN_WITH_SUCH_A_HEAD or re.match(r"^(in|if|then|else|write)-", name) is not None
+    return {n for n in own - goals - lib if HYPHEN.search(n) and not n.startswith("-") and (not KEEP.match(n) or n in OWN_ALL_THE_SAME)}
 
 
 FUNCTIONS = set()
 
 
 def functions():
-    """The functions of src/: a definition that would have the name of one of them ends in _lem."""
+    """The free functions of src/: a definition that would have the name of one of them ends in _lem. (A method's is another place.)"""
     for path in glob.glob("crates/*/src/**/*.rt", recursive=True):
-        FUNCTIONS.update(re.findall(r"\bfn (\w+)", read(path)))
+        FUNCTIONS.update(re.findall(r"^(?:pub(?:\(crate\))? )?fn (\w+)", read(path), re.M))
 
 
 def respelled(name):

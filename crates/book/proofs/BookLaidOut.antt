@@ -3,7 +3,7 @@ use Rattle.std.proofs.Common.{◌≡◌, ℕ, ◌+◌, ◌*◌, ◌≤◌, List,
 use Rattle.measure.specs.Scale.{Scale}
 use Rattle.network.specs.Labels.{Entry}
 use Rattle.network.specs.Networks.{Network}
-use Rattle.network.specs.Rows.{border_row_lem, district_row_lem}
+use Rattle.network.specs.Rows.{border_row, district_row}
 use Rattle.book.specs.Layout.{word, counts_of, places_at, order_at, words_in}
 use Rattle.book.specs.Words.{border_rows, district_rows, offsets_from, all_entries, entry_words, count_words, book_size, words}
 use Rattle.book.specs.declared.names.Names.TheVariants.{Ranks, Hubs}
@@ -34,14 +34,14 @@ module _ (s : Scale) (net : Network) (long : length net.places ≡ net.junctions
   abbrev front : List ℕ
   front = (1 ∷ s.tag ∷ []) ++ (count_words s net order ++ (book_size s net order ∷ []))
 
-  abbrev border_offsets_lem : List ℕ
-  border_offsets_lem = offsets_from 0 (border_rows s net order)
+  abbrev border_offsets : List ℕ
+  border_offsets = offsets_from 0 (border_rows s net order)
 
   abbrev border_words : List ℕ
   border_words = entry_words (all_entries (border_rows s net order))
 
-  abbrev district_offsets_lem : List ℕ
-  district_offsets_lem = offsets_from 0 (district_rows s net)
+  abbrev district_offsets : List ℕ
+  district_offsets = offsets_from 0 (district_rows s net)
 
   abbrev district_words : List ℕ
   district_words = entry_words (all_entries (district_rows s net))
@@ -49,13 +49,13 @@ module _ (s : Scale) (net : Network) (long : length net.places ≡ net.junctions
   offsets_are_long : (rows : List (List Entry)) → length rows ≡ net.junctions → length (offsets_from 0 rows) ≡ net.junctions + 1
   offsets_are_long rows e = omega (arith, length_offsets 0 rows)
 
-  border_offsets_are_long : length border_offsets_lem ≡ net.junctions + 1
+  border_offsets_are_long : length border_offsets ≡ net.junctions + 1
   border_offsets_are_long =
-      offsets_are_long (border_rows s net order) (as_many_rows_as_junctions (border_row_lem s net order) net.junctions)
+      offsets_are_long (border_rows s net order) (as_many_rows_as_junctions (border_row s net order) net.junctions)
 
-  district_offsets_are_long : length district_offsets_lem ≡ net.junctions + 1
+  district_offsets_are_long : length district_offsets ≡ net.junctions + 1
   district_offsets_are_long =
-      offsets_are_long (district_rows s net) (as_many_rows_as_junctions (district_row_lem s net) net.junctions)
+      offsets_are_long (district_rows s net) (as_many_rows_as_junctions (district_row s net) net.junctions)
 
   pub book_size_is : book_size s net order ≡ length (words s net order)
   book_size_is =
@@ -66,7 +66,7 @@ module _ (s : Scale) (net : Network) (long : length net.places ≡ net.junctions
         district_offsets_are_long,
         length_entry_words (all_entries (border_rows s net order)),
         length_entry_words (all_entries (district_rows s net)),
-        length_laid front net.places order border_offsets_lem border_words district_offsets_lem district_words [],
+        length_laid front net.places order border_offsets border_words district_offsets district_words [],
       )
 
   pub words_are_laid_out : (more : List ℕ) → LaidOut s net order (words s net order ++ more)
@@ -74,7 +74,7 @@ module _ (s : Scale) (net : Network) (long : length net.places ≡ net.junctions
       let n : ℕ = net.junctions in
       let k : ℕ = length (all_entries (border_rows s net order)) in
       let l : ℕ = length (all_entries (district_rows s net)) in
-      let there = six_sections front net.places order border_offsets_lem border_words district_offsets_lem district_words more
+      let there = six_sections front net.places order border_offsets border_words district_offsets district_words more
       8 n (length order) (n + 1) (2 * k) (n + 1) (2 * l) refl long refl border_offsets_are_long
       (length_entry_words (all_entries (border_rows s net order))) district_offsets_are_long
       (length_entry_words (all_entries (district_rows s net))) in
@@ -88,19 +88,19 @@ module _ (s : Scale) (net : Network) (long : length net.places ≡ net.junctions
         district_entries_are = refl;
         words_are = refl;
         words_are_there =
-            omega (arith, book_size_is, laid_is_no_longer front net.places order border_offsets_lem border_words district_offsets_lem district_words more);
+            omega (arith, book_size_is, laid_is_no_longer front net.places order border_offsets border_words district_offsets district_words more);
         places_lie = there.first_is;
         order_lies = there.second_is;
         border_rows_lie = record {
           offsets_lie = there.third_is;
           entries_lie = there.fourth_is;
-          as_many_rows = sym (as_many_rows_as_junctions (border_row_lem s net order) n);
+          as_many_rows = sym (as_many_rows_as_junctions (border_row s net order) n);
           as_many_entries = refl;
         };
         district_rows_lie = record {
           offsets_lie = there.fifth_is;
           entries_lie = there.sixth_is;
-          as_many_rows = sym (as_many_rows_as_junctions (district_row_lem s net) n);
+          as_many_rows = sym (as_many_rows_as_junctions (district_row s net) n);
           as_many_entries = refl;
         };
       }

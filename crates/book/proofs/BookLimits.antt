@@ -9,7 +9,7 @@ use Rattle.measure.specs.Scale.{Scale}
 use Rattle.network.specs.Lists.{In, Distinct, count_up}
 use Rattle.network.specs.Networks.{Network, Junction, Sound, district, is_border, BorderOrder}
 use Rattle.network.specs.Labels.{Entry}
-use Rattle.network.specs.Rows.{border_row_lem, district_row_lem}
+use Rattle.network.specs.Rows.{border_row, district_row}
 use Rattle.network.proofs.Lists.{all_in, all_from_in, without, in_without, without_is_shorter, length_count_up}
 use Rattle.network.proofs.NetworkArcs.{junction_is_counted}
 use Rattle.network.proofs.DistrictArcs.{border_is_a_junction}
@@ -68,9 +68,9 @@ module _ (f : ℕ → List Entry) (n : ℕ) where
 module _ (s : Scale) (net : Network) where
   pub border_entries_are_few : (order : List ℕ) → length (all_entries (border_rows s net order)) ≤ net.junctions * length order
   border_entries_are_few order =
-      entries_of_rows_are_at_most (border_row_lem s net order) net.junctions (length order) (border_row_is_no_longer s net order)
+      entries_of_rows_are_at_most (border_row s net order) net.junctions (length order) (border_row_is_no_longer s net order)
 
   pub district_entries_are_few : length (all_entries (district_rows s net)) ≤ net.junctions * net.junctions
   district_entries_are_few =
-      entries_of_rows_are_at_most (district_row_lem s net) net.junctions net.junctions
+      entries_of_rows_are_at_most (district_row s net) net.junctions net.junctions
       (λ v. omega (arith, district_row_is_no_longer s net v, members_are_no_more net (district net v)))

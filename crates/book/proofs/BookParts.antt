@@ -5,7 +5,7 @@ use Rattle.book.specs.declared.counts.Counts.{Counts}
 use Rattle.book.specs.declared.names.Names.{Names}
 use Rattle.book.specs.declared.names.Names.TheVariants.{Ranks, Hubs}
 use Rattle.book.specs.Layout.{section, places_at, order_at}
-use Rattle.book.specs.Bad.{Part, part, offsets_at, entries_at, entry_count_lem, bad_count_lem, count_faults, bad_district_lem, bad_border_lem, bad_offset_lem, bad_entry_lem, count_parts, place_parts, row_parts, parts, Finds}
+use Rattle.book.specs.Bad.{Part, part, offsets_at, entries_at, entry_count, bad_count_lem, count_faults, bad_district_lem, bad_border_lem, bad_offset_lem, bad_entry_lem, count_parts, place_parts, row_parts, parts, Finds}
 use Rattle.book.specs.Found.{first_true, FirstIn}
 use Rattle.book.proofs.SectionWords.{offsets_size, entries_size, entries_follow}
 use Rattle.book.proofs.Parts.{Chain, nothing_is_bad, part_is_good, alone_some, first_in_front, first_in_rest, pair_front, pair_back, pair_good}
@@ -23,7 +23,7 @@ module _ (s : Scale) (ws : List ℕ) (c : Counts) (names : Names) where
   offset_number = c.junctions + 1
 
   abbrev entry_words : ℕ
-  entry_words = 2 * entry_count_lem c names
+  entry_words = 2 * entry_count c names
 
   pub in_offsets : (j first : ℕ) → first ≡ (offsets_at c names).first → Finds (bad_offset_lem ws c names) 0 offset_number (Some j) → FirstIn (row_parts s ws c names) (Some (first + j))
   in_offsets =

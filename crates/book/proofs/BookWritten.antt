@@ -7,7 +7,7 @@ use Rattle.measure.specs.Scale.{Scale, Laws}
 use Rattle.network.specs.Lists.{count_up}
 use Rattle.network.specs.Labels.{Entry}
 use Rattle.network.specs.Networks.{Network, Junction, district, BorderOrder}
-use Rattle.network.specs.Rows.{border_row_lem, district_row_lem}
+use Rattle.network.specs.Rows.{border_row, district_row}
 use Rattle.network.specs.Theorems.{RowsAscend}
 use Rattle.network.proofs.Conclusions.{rows_ascend_lem}
 use Rattle.drawing.specs.Edits.{within}
@@ -60,16 +60,16 @@ module _ (s : Scale) (laws : Laws s) (net : Network) (order : List ℕ) (bookabl
   district_word v j =
       word_of_section (places_at (counts_of ws)) ws net.places (v - 1) laid.places_lie (omega (arith, laid.junctions_are))
 
-  border_row_is_good : (v : ℕ) → GoodRow s ws (counts_of ws) Ranks v (border_row_lem s net order v)
+  border_row_is_good : (v : ℕ) → GoodRow s ws (counts_of ws) Ranks v (border_row s net order v)
   border_row_is_good v = record {
     ascends = ascending.border_ranks_ascend v;
     right =
         All-weaker (λ e. e.hub < length order) (λ e. right_name ws (counts_of ws) Ranks v e.hub ≡ true)
-        (λ e h. lt-ltb e.hub (word ws 4) (omega (arith, laid.borders_are))) (border_row_lem s net order v) (ascending.border_ranks_are_below v);
+        (λ e h. lt-ltb e.hub (word ws 4) (omega (arith, laid.borders_are))) (border_row s net order v) (ascending.border_ranks_are_below v);
     proper = ascending.border_values_are_proper v;
   }
 
-  district_row_is_good : (v : ℕ) → Junction net v → GoodRow s ws (counts_of ws) Hubs v (district_row_lem s net v)
+  district_row_is_good : (v : ℕ) → Junction net v → GoodRow s ws (counts_of ws) Hubs v (district_row s net v)
   district_row_is_good v j = record {
     ascends = ascending.district_hubs_ascend v;
     right =
@@ -77,7 +77,7 @@ module _ (s : Scale) (laws : Laws s) (net : Network) (order : List ℕ) (bookabl
         (λ e h. and_from (within 1 (word ws 2) e.hub) (eqb (word ws (8 + (e.hub - 1))) (word ws (8 + (v - 1))))
         (is_within 1 (word ws 2) e.hub h.0.0 (omega (arith, laid.junctions_are, h.0.1)))
         (eq-eqb (word ws (8 + (e.hub - 1))) (word ws (8 + (v - 1))) (district_word e.hub h.0 ∙ h.1 ∙ sym (district_word v j))))
-        (district_row_lem s net v) (ascending.district_hubs_are_members v);
+        (district_row s net v) (ascending.district_hubs_are_members v);
     proper = ascending.district_values_are_proper v;
   }
 
@@ -128,12 +128,12 @@ module _ (s : Scale) (laws : Laws s) (net : Network) (order : List ℕ) (bookabl
               no_offset_is_bad ws (counts_of ws) Ranks (border_rows s net order) laid.border_rows_lie,
               (
                 no_entry_is_bad s ws (counts_of ws) Ranks (border_rows s net order) laid.border_rows_lie counts_are_ready
-                    (rows_are_good Ranks (border_row_lem s net order) (λ v j. border_row_is_good v)),
+                    (rows_are_good Ranks (border_row s net order) (λ v j. border_row_is_good v)),
                 (
                   no_offset_is_bad ws (counts_of ws) Hubs (district_rows s net) laid.district_rows_lie,
                   (
                     no_entry_is_bad s ws (counts_of ws) Hubs (district_rows s net) laid.district_rows_lie counts_are_ready
-                        (rows_are_good Hubs (district_row_lem s net) district_row_is_good),
+                        (rows_are_good Hubs (district_row s net) district_row_is_good),
                     tt,
                   ),
                 ),
@@ -146,8 +146,8 @@ module _ (s : Scale) (laws : Laws s) (net : Network) (order : List ℕ) (bookabl
   laid_out_is_a_book : WordsAreABook s net order ws
   laid_out_is_a_book = record {
     is_a_book = record { checked = checks_pass; none_bad = none_is_bad };
-    shows_border_rows = rows_are_shown Ranks (border_row_lem s net order) laid.border_rows_lie;
-    shows_district_rows = rows_are_shown Hubs (district_row_lem s net) laid.district_rows_lie;
+    shows_border_rows = rows_are_shown Ranks (border_row s net order) laid.border_rows_lie;
+    shows_district_rows = rows_are_shown Hubs (district_row s net) laid.district_rows_lie;
     shows_districts = laid.places_lie;
     shows_order = laid.order_lies;
     counts_its_words = laid.words_are ∙ book_size_is s net bookable.allowed.sound.every_junction_has_a_district order;

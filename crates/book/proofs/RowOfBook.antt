@@ -9,7 +9,7 @@ use Rattle.network.specs.Labels.{Entry, entry, Ascends}
 use Rattle.network.specs.Theorems.{Proper}
 use Rattle.book.specs.Layout.{word, counts_of, entries}
 use Rattle.book.specs.Words.{entry_words}
-use Rattle.book.specs.Bad.{offset, entries_at, entry_count_lem, entry_word_lem, right_name, begins_a_row, row_of, bad_name, bad_value}
+use Rattle.book.specs.Bad.{offset, entries_at, entry_count, entry_word_lem, right_name, begins_a_row, row_of, bad_name, bad_value}
 use Rattle.book.specs.Opened.{IsBook, IsRow, row_words}
 use Rattle.book.specs.Told.{RowsAreRows}
 use Rattle.book.specs.declared.counts.Counts.{Counts}
@@ -128,7 +128,7 @@ module _ (s : Scale) (ws : List ℕ) (book : IsBook s ws) (names : Names) (v : �
     abbrev number : ℕ
     number = begin + k
 
-    is_counted : number < entry_count_lem c names
+    is_counted : number < entry_count c names
     is_counted =
         let few = offset_within ws c names (good_offsets s ws book names) v high in
         omega arith

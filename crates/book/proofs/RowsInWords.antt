@@ -4,7 +4,7 @@ use Rattle.std.proofs.lemmas.Bool.{cases_Bool, cond_both, or_from, and_left, and
 use Rattle.network.specs.Labels.{Entry}
 use Rattle.book.specs.Layout.{words_in}
 use Rattle.book.specs.Words.{offsets_from, all_entries, entry_words}
-use Rattle.book.specs.Bad.{offsets_at, entries_at, entry_count_lem, offset, bad_offset_lem}
+use Rattle.book.specs.Bad.{offsets_at, entries_at, entry_count, offset, bad_offset_lem}
 use Rattle.book.specs.declared.counts.Counts.{Counts}
 use Rattle.book.specs.declared.names.Names.{Names}
 use Rattle.book.proofs.LaidEndToEnd.{middle, length_entry_words, entry_words_append}
@@ -16,7 +16,7 @@ pub record RowsLie (ws : List ℕ) (c : Counts) (names : Names) (rows : List (Li
   pub offsets_lie : words_in (offsets_at c names) ws ≡ offsets_from 0 rows
   pub entries_lie : words_in (entries_at c names) ws ≡ entry_words (all_entries rows)
   pub as_many_rows : c.junctions ≡ length rows
-  pub as_many_entries : entry_count_lem c names ≡ length (all_entries rows)
+  pub as_many_entries : entry_count c names ≡ length (all_entries rows)
 
 -- an offset a, after the offset b, where n is the number of junctions and k that of entries
 good_offset : (j n a b k : ℕ) → (j ≡ 0 → a ≡ 0) → b ≤ a → a ≤ k → (j ≡ n → a ≡ k)
@@ -42,8 +42,8 @@ module _ (ws : List ℕ) (c : Counts) (names : Names) (rows : List (List Entry))
       let h : j ≤ length rows = omega (arith, offsets_size c names, lie.as_many_rows) in
       let here : offset ws c names j ≡ before rows j = offset_here j h in
       let last : offset ws c names (j - 1) ≡ before rows (j - 1) = offset_here (j - 1) (omega arith) in
-      let count : entry_count_lem c names ≡ length (all_entries rows) = lie.as_many_entries in
-      good_offset j c.junctions (offset ws c names j) (offset ws c names (j - 1)) (entry_count_lem c names)
+      let count : entry_count c names ≡ length (all_entries rows) = lie.as_many_entries in
+      good_offset j c.junctions (offset ws c names j) (offset ws c names (j - 1)) (entry_count c names)
       (λ e. here ∙ ap (before rows) e ∙ before_none rows)
       (omega (arith, before_rises rows (j - 1) j (omega arith)))
       (omega (arith, before_is_at_most_all rows j h))

@@ -5,7 +5,7 @@ use Rattle.std.proofs.lemmas.Bool.Decides.{nat_tests}
 use Rattle.book.specs.declared.counts.Counts.{Counts}
 use Rattle.book.specs.declared.names.Names.{Names}
 use Rattle.book.specs.Layout.{words_in}
-use Rattle.book.specs.Bad.{among, offsets_at, entry_count_lem, offset, begins_a_row, row_of}
+use Rattle.book.specs.Bad.{among, offsets_at, entry_count, offset, begins_a_row, row_of}
 use Rattle.book.specs.Ready.{Ready, GoodOffsets}
 use Rattle.book.proofs.SectionWords.{section_length, section_word, offsets_size, entries_follow, entries_fit}
 
@@ -57,10 +57,10 @@ module _ (ws : List ℕ) (c : Counts) (names : Names) (good : GoodOffsets ws c n
   offsets_begin_at_zero =
       begins 0 _ (offset ws c names 0) (or_parts _ _ (or_parts _ _ (good 0 (omega arith))).0).0 refl
 
-  pub offsets_end_at_the_count : (j : ℕ) → j ≡ c.junctions → offset ws c names j ≡ entry_count_lem c names
+  pub offsets_end_at_the_count : (j : ℕ) → j ≡ c.junctions → offset ws c names j ≡ entry_count c names
   offsets_end_at_the_count j last = ends j c.junctions _ _ (or_parts _ _ (good j (omega arith))).1 last
 
-  pub offset_within : (j : ℕ) → j ≤ c.junctions → offset ws c names j ≤ entry_count_lem c names
+  pub offset_within : (j : ℕ) → j ≤ c.junctions → offset ws c names j ≤ entry_count c names
   offset_within j h = ltb-false _ _ (or_parts _ _ (or_parts _ _ (good j h)).0).1
 
   pub next_offset : (j : ℕ) → 1 ≤ j → j ≤ c.junctions → offset ws c names (j - 1) ≤ offset ws c names j

@@ -2,7 +2,7 @@
 use Rattle.std.proofs.Common.{◌≡◌, ℕ, ◌+◌, ◌*◌, ◌<◌, ◌≤◌, List, length, get_or, take, drop, sym, refl, ap, ◌∙◌, arith}
 use Rattle.std.proofs.lemmas.List.{get_or-take, get_or-drop, length-take, length-drop, take-take, drop-drop, drop-take}
 use Rattle.book.specs.Layout.{word, Section, words_in, after}
-use Rattle.book.specs.Bad.{offsets_at, entries_at, entry_count_lem}
+use Rattle.book.specs.Bad.{offsets_at, entries_at, entry_count}
 use Rattle.book.specs.Ready.{Ready}
 use Rattle.book.specs.declared.counts.Counts.{Counts}
 use Rattle.book.specs.declared.names.Names.{Names}
@@ -35,7 +35,7 @@ pub offsets_size : (c : Counts) (names : Names) → (offsets_at c names).size �
 offsets_size c Ranks = refl
 offsets_size c Hubs = refl
 
-pub entries_size : (c : Counts) (names : Names) → (entries_at c names).size ≡ 2 * entry_count_lem c names
+pub entries_size : (c : Counts) (names : Names) → (entries_at c names).size ≡ 2 * entry_count c names
 entries_size c Ranks = refl
 entries_size c Hubs = refl
 

@@ -51,9 +51,9 @@ abbrev pub entries_at : Counts → Names → Section
 entries_at c Ranks = border_entries_at c
 entries_at c Hubs = district_entries_at c
 
-abbrev pub entry_count_lem : Counts → Names → ℕ
-entry_count_lem c Ranks = c.border_entries
-entry_count_lem c Hubs = c.district_entries
+abbrev pub entry_count : Counts → Names → ℕ
+entry_count c Ranks = c.border_entries
+entry_count c Hubs = c.district_entries
 
 -- offset number j, and word number j of the entries
 abbrev pub offset : List ℕ → Counts → Names → ℕ → ℕ
@@ -66,8 +66,8 @@ entry_word_lem ws c names j = word ws ((entries_at c names).first + j)
 abbrev pub bad_offset_lem : List ℕ → Counts → Names → ℕ → Bool
 bad_offset_lem ws c names j =
     (cond (j == 0) (not (offset ws c names j == 0)) (nat_lt (offset ws c names j) (offset ws c names (j - 1)))
-    || nat_lt (entry_count_lem c names) (offset ws c names j))
-    || (j == c.junctions && not (offset ws c names j == entry_count_lem c names))
+    || nat_lt (entry_count c names) (offset ws c names j))
+    || (j == c.junctions && not (offset ws c names j == entry_count c names))
 
 -- entry number e is the first of its row: its number is one of the offsets
 abbrev pub begins_a_row : List ℕ → Counts → Names → ℕ → Bool

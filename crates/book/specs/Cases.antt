@@ -5,7 +5,7 @@ use Rattle.measure.specs.Measures.{metres, clearance}
 use Rattle.network.specs.Lists.{count_up}
 use Rattle.network.specs.Networks.{Road, Network, district, borders}
 use Rattle.network.specs.Labels.{meet}
-use Rattle.network.specs.Rows.{border_row_lem, district_row_lem, members}
+use Rattle.network.specs.Rows.{border_row, district_row, members}
 use Rattle.network.specs.Worked.{open_road, six_with, six, six_order, network_cases}
 use Rattle.book.specs.Words.{border_rows, district_rows, all_entries, words}
 use Rattle.book.specs.Opened.{as_pair, as_pair_by_rank}
@@ -14,8 +14,8 @@ use Rattle.book.specs.Opened.{as_pair, as_pair_by_rank}
 -- rows in two; nothing where there is no road
 abbrev pub answer : Scale → Network → List ℕ → ℕ → ℕ → Option (ℕ × ℕ)
 answer s net order u v =
-    cond (district net u == district net v) (as_pair (meet s (district_row_lem s net u) (district_row_lem s net v)))
-    (as_pair_by_rank order (meet s (border_row_lem s net order u) (border_row_lem s net order v)))
+    cond (district net u == district net v) (as_pair (meet s (district_row s net u) (district_row s net v)))
+    (as_pair_by_rank order (meet s (border_row s net order u) (border_row s net order v)))
 
 -- the sum over a list of districts of the squared number of their junctions
 abbrev pub squares : Network → List ℕ → ℕ

@@ -17,8 +17,8 @@ FirstIn ps (Some i) = (bad_in ps i ≡ true) × ((j : ℕ) → j < i → bad_in 
 pub record Few (c : Counts) : Type 0 where
   pub junctions : c.junctions ≤ 4096
   pub borders : c.borders ≤ c.junctions
-  pub border_entries_lem : c.border_entries ≤ c.junctions * c.borders
-  pub district_entries_lem : c.district_entries ≤ c.junctions * c.junctions
+  pub border_entries : c.border_entries ≤ c.junctions * c.borders
+  pub district_entries : c.district_entries ≤ c.junctions * c.junctions
 
 -- the marks say, of each number to 4,096, whether it is one of the borders so far
 pub record Marks (seen : List Bool) (borders : List ℕ) : Type 0 where

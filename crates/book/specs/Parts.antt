@@ -3,7 +3,7 @@ use Rattle.std.specs.Prelude.{◌≡◌, ℕ, ◌+◌, ◌-◌, ◌*◌, ◌<◌
 use Rattle.std.specs.Borrow.{Bor}
 use Rattle.drawing.specs.declared.refusal.Refusal.{Refusal}
 use Rattle.book.specs.Layout.{word, total, Section, section, Spans}
-use Rattle.book.specs.Bad.{entries_at, entry_count_lem, offset}
+use Rattle.book.specs.Bad.{entries_at, entry_count, offset}
 use Rattle.book.specs.declared.names.Names.{Names}
 use Rattle.book.specs.declared.counts.Counts.{Counts}
 use Rattle.book.specs.declared.span.Span.{Span}
@@ -29,4 +29,4 @@ stretch c names begin end = section ((entries_at c names).first + 2 * begin) (2 
 -- the span is that stretch.
 abbrev pub IsStretch : Counts → Names → ℕ → ℕ → Span → Type 0
 IsStretch c names begin end p =
-    total c ≤ c.words → begin ≤ end → end ≤ entry_count_lem c names → Spans (stretch c names begin end) c.words p
+    total c ≤ c.words → begin ≤ end → end ≤ entry_count c names → Spans (stretch c names begin end) c.words p

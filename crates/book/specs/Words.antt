@@ -4,14 +4,14 @@ use Rattle.measure.specs.Scale.{Scale}
 use Rattle.network.specs.Lists.{count_up}
 use Rattle.network.specs.Networks.{Network}
 use Rattle.network.specs.Labels.{Entry}
-use Rattle.network.specs.Rows.{border_row_lem, district_row_lem}
+use Rattle.network.specs.Rows.{border_row, district_row}
 
 -- the rows of all junctions, in order
 abbrev pub border_rows : Scale → Network → List ℕ → List (List Entry)
-border_rows s net order = map (border_row_lem s net order) (count_up 1 net.junctions)
+border_rows s net order = map (border_row s net order) (count_up 1 net.junctions)
 
 abbrev pub district_rows : Scale → Network → List (List Entry)
-district_rows s net = map (district_row_lem s net) (count_up 1 net.junctions)
+district_rows s net = map (district_row s net) (count_up 1 net.junctions)
 
 -- how many entries come before each row, if k come before the first; and at the end how many there are
 abbrev pub offsets_from : ℕ → List (List Entry) → List ℕ

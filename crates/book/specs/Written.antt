@@ -3,7 +3,7 @@ use Rattle.std.specs.Prelude.{◌≡◌, ℕ, ◌≤◌, List, length}
 use Rattle.measure.specs.Scale.{Scale}
 use Rattle.network.specs.Networks.{Network, Junction}
 use Rattle.network.specs.Labels.{Entry}
-use Rattle.network.specs.Rows.{border_row_lem, district_row_lem}
+use Rattle.network.specs.Rows.{border_row, district_row}
 use Rattle.network.specs.Theorems.{Allowed}
 use Rattle.book.specs.Layout.{word, counts_of, places_at, order_at, words_in, entries}
 use Rattle.book.specs.Words.{entry_words, words}
@@ -27,8 +27,8 @@ pub record ShowsRow (ws : List ℕ) (names : Names) (v : ℕ) (row : List Entry)
 -- districts and the order, and which says how many words it has.
 pub record WordsAreABook (s : Scale) (net : Network) (order : List ℕ) (ws : List ℕ) : Type 0 where
   pub is_a_book : IsBook s ws
-  pub shows_border_rows : (v : ℕ) → Junction net v → ShowsRow ws Ranks v (border_row_lem s net order v)
-  pub shows_district_rows : (v : ℕ) → Junction net v → ShowsRow ws Hubs v (district_row_lem s net v)
+  pub shows_border_rows : (v : ℕ) → Junction net v → ShowsRow ws Ranks v (border_row s net order v)
+  pub shows_district_rows : (v : ℕ) → Junction net v → ShowsRow ws Hubs v (district_row s net v)
   pub shows_districts : words_in (places_at (counts_of ws)) ws ≡ net.places
   pub shows_order : words_in (order_at (counts_of ws)) ws ≡ order
   pub counts_its_words : word ws 7 ≡ length (words s net order)

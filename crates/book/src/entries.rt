@@ -1,6 +1,6 @@
 // The first bad word of the entries of a book.
 ghost use Rattle.std.specs.Prelude.{◌≡◌, ◌*◌, ◌<◌, ◌≤◌};
-ghost use Rattle.book.specs.Bad.{entry_word_lem, entry_count_lem, right_name, bad_value, bad_entry_lem, Finds};
+ghost use Rattle.book.specs.Bad.{entry_word_lem, entry_count, right_name, bad_value, bad_entry_lem, Finds};
 ghost use Rattle.book.specs.InRow.{Lies, bad_name_in};
 ghost use Rattle.book.specs.Ready.{Ready, GoodOffsets};
 
@@ -11,7 +11,7 @@ use measure::Measure;
 
 // Word number `place` of the border entries or of the district entries.
 fn entry_word(words: &[u64], counts: &Counts, names: Names, place: u64) -> u64
-    requires { (Ready words.now counts.now) × (place < 2 * entry_count_lem counts.now names) }
+    requires { (Ready words.now counts.now) × (place < 2 * entry_count counts.now names) }
     ensures { result ≡ entry_word_lem words.now counts.now names place }
 {
     word_at(words, counts.entries(names), place)
@@ -49,7 +49,7 @@ fn is_bad_name(
     from: u64,
     number: u64,
 ) -> bool
-    requires { (Ready words.now counts.now) × ((1 ≤ junction) × ((junction ≤ counts.now.junctions) × ((from ≤ number) × (number < entry_count_lem counts.now names)))) }
+    requires { (Ready words.now counts.now) × ((1 ≤ junction) × ((junction ≤ counts.now.junctions) × ((from ≤ number) × (number < entry_count counts.now names)))) }
     ensures { result ≡ bad_name_in words.now counts.now names junction from number }
 {
     let name = entry_word(words, counts, names, 2 * number);
@@ -85,7 +85,7 @@ fn bad_in_row<M: Measure>(
 // The first bad word of the border entries or of the district entries, counted from the first of them.
 pub(crate) fn bad_entry<M: Measure>(words: &[u64], counts: &Counts, names: Names) -> Option<u64>
     requires { (Ready words.now counts.now) × (GoodOffsets words.now counts.now names) }
-    ensures { Finds (bad_entry_lem M.Measure.scale words.now counts.now names) 0 (2 * entry_count_lem counts.now names) result }
+    ensures { Finds (bad_entry_lem M.Measure.scale words.now counts.now names) 0 (2 * entry_count counts.now names) result }
 {
     let mut from = 0;
     for junction in 1..=counts.junctions {

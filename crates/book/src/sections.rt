@@ -1,7 +1,7 @@
 // The six sections of a book, each beginning where the one before it ends.
 ghost use Rattle.std.specs.Prelude.{◌≡◌, ◌+◌, ◌<◌, ◌≤◌, length};
 ghost use Rattle.book.specs.Layout.{word, IsSection};
-ghost use Rattle.book.specs.Bad.{offsets_at, entries_at, entry_count_lem, offset};
+ghost use Rattle.book.specs.Bad.{offsets_at, entries_at, entry_count, offset};
 ghost use Rattle.book.specs.Layout.{places_at, order_at, border_offsets_at, border_entries_at, district_offsets_at, district_entries_at};
 ghost use Rattle.book.specs.Ready.{Ready};
 
@@ -89,7 +89,7 @@ impl Counts {
 
     // How many entries those rows have.
     pub(crate) fn entry_count(&self, names: Names) -> u64
-        ensures { result ≡ entry_count_lem self.now names }
+        ensures { result ≡ entry_count self.now names }
     {
         match names {
             Names::Ranks => self.border_entries,

@@ -19,7 +19,7 @@ pub enum Refusal {
     OtherMeasure,
     // a count to start is 0 or over its limit
     BadCount,
-    // a table is shorter than the call needs
+    // a table has fewer entries than the call needs
     ShortTable { needed: u64 },
     // no junction has this number
     NoJunction,

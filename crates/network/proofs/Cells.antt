@@ -96,7 +96,7 @@ module _ (s : Scale) (d : ℕ → ℕ → ℕ) (hubs : List ℕ) (v i : ℕ) (lo
       (λ f. inr (cond-false test (d (hub_of hubs i) v) s.none f))
       (cases_Bool test)
 
-  -- a cell other than none is an entry
+  -- where a cell is not none there is an entry
   pub cell_not_none_has :
       (cell_at s d hubs v i ≡ s.none → ⊥) → HasEntry s d hubs v i × (cell_at s d hubs v i ≡ d (hub_of hubs i) v)
   cell_not_none_has ne = ⊎_elim (λ h. h) (λ e. absurd (ne e)) cell_cases

@@ -5,7 +5,7 @@ use Rattle.measure.specs.Scale.{Scale}
 use Rattle.network.specs.Lists.{count_up}
 use Rattle.network.specs.Networks.{Network, district, best, is_border, borders}
 use Rattle.network.specs.Labels.{Entry, entry, cell, row_after, row}
-use Rattle.network.specs.Rows.{border_row_lem, district_best, members, district_row_lem}
+use Rattle.network.specs.Rows.{border_row, district_best, members, district_row}
 use Rattle.network.proofs.Lists.{kept_by_is_no_longer, length_count_up}
 
 module _ (s : Scale) (d : ℕ → ℕ → ℕ) (name : ℕ → ℕ) where
@@ -22,10 +22,10 @@ module _ (s : Scale) (d : ℕ → ℕ → ℕ) (name : ℕ → ℕ) where
   row_is_no_longer hubs v = row_after_is_no_longer [] hubs v
 
 module _ (s : Scale) (net : Network) where
-  pub border_row_is_no_longer : (order : List ℕ) (v : ℕ) → length (border_row_lem s net order v) ≤ length order
+  pub border_row_is_no_longer : (order : List ℕ) (v : ℕ) → length (border_row s net order v) ≤ length order
   border_row_is_no_longer order v = row_is_no_longer s (best s net) (λ i. i) order v
 
-  pub district_row_is_no_longer : (v : ℕ) → length (district_row_lem s net v) ≤ length (members net (district net v))
+  pub district_row_is_no_longer : (v : ℕ) → length (district_row s net v) ≤ length (members net (district net v))
   district_row_is_no_longer v =
       let k : ℕ = district net v in
       row_is_no_longer s (district_best s net k) (λ i. get_or (members net k) i 0) (members net k) v

@@ -5,7 +5,7 @@ use Rattle.measure.specs.Scale.{Scale, Laws}
 use Rattle.network.specs.Lists.{In}
 use Rattle.network.specs.Networks.{Network, Junction, district, arcs, best}
 use Rattle.network.specs.Labels.{Entry, row, meet, struck}
-use Rattle.network.specs.Rows.{border_row_lem, district_best, members, district_row_lem}
+use Rattle.network.specs.Rows.{border_row, district_best, members, district_row}
 use Rattle.network.specs.Theorems.{NoWalk, Answers, BorderRowsAnswer, FallsShort, EveryEntryIsNeeded, CellsFollowFromEntries, RowsAscend}
 use Rattle.network.proofs.Distance.{Distance, WalkDistance}
 use Rattle.network.proofs.Lists.{all_from_in, rank_of}
@@ -48,7 +48,7 @@ module _ (s : Scale) (laws : Laws s) (net : Network) (order : List ℕ) (dist : 
       WalkDistance s (arcs net) (best s net) → ((u v : ℕ) → best s net u v ≡ s.none → NoWalk net u v)
       → OrderCovers s net order → BorderRowsAnswer s net order
   border_rows_answer_lem walks no_walk covers u v ju jv apart =
-      giving_answers s net walks no_walk u v (meet s (border_row_lem s net order u) (border_row_lem s net order v))
+      giving_answers s net walks no_walk u v (meet s (border_row s net order u) (border_row s net order v))
       (two_rows_give s laws (best s net) dist (λ i. i) order (ranks_rise (length order)) u v covered)
     where
       covered : NoneOrCovered s (best s net) order u v
@@ -61,21 +61,21 @@ module _ (s : Scale) (laws : Laws s) (net : Network) (order : List ℕ) (dist : 
           (cases_eq (best s net u v) s.none)
 
   pub border_entry_is_needed :
-      (v : ℕ) (e : Entry) → In e (border_row_lem s net order v)
+      (v : ℕ) (e : Entry) → In e (border_row s net order v)
       → FallsShort s (best s net (get_or order e.hub 0) v)
-      (meet s (struck e.hub (border_row_lem s net order v)) (border_row_lem s net order (get_or order e.hub 0)))
+      (meet s (struck e.hub (border_row s net order v)) (border_row s net order (get_or order e.hub 0)))
   border_entry_is_needed v e h =
       let r = in_row s (best s net) (λ i. i) order v e h in
       subst
       (λ i. FallsShort s (best s net (get_or order i 0) v)
-      (meet s (struck e.hub (border_row_lem s net order v)) (border_row_lem s net order (get_or order i 0))))
+      (meet s (struck e.hub (border_row s net order v)) (border_row s net order (get_or order i 0))))
       (sym r.hub_is)
       (entry_is_needed s laws (best s net) dist (λ i. i) order (ranks_rise (length order)) v e r)
 
 module _ (s : Scale) (net : Network) (k v : ℕ) (inside : district net v ≡ k) where
   -- the district row of a junction of district k
   pub district_row_at :
-      district_row_lem s net v ≡ row s (district_best s net k) (λ i. get_or (members net k) i 0) (members net k) v
+      district_row s net v ≡ row s (district_best s net k) (λ i. get_or (members net k) i 0) (members net k) v
   district_row_at =
       ap (λ (x : ℕ). row s (district_best s net x) (λ i. get_or (members net x) i 0) (members net x) v) inside
 
@@ -94,31 +94,31 @@ module _ (s : Scale) (laws : Laws s) (net : Network) (dist : (k : ℕ) → Dista
   pub district_rows_joined :
       WalkDistance s (arcs net) (best s net) → ((u v : ℕ) → best s net u v ≡ s.none → NoWalk net u v)
       → (u v : ℕ) → Junction net u → Junction net v → district net u ≡ district net v
-      → Answers s net u v (meet s (district_row_lem s net u) (district_row_lem s net v))
+      → Answers s net u v (meet s (district_row s net u) (district_row s net v))
   district_rows_joined walks no_walk u v ju jv e =
       let k : ℕ = district net v in
-      giving_answers s net walks no_walk u v (meet s (district_row_lem s net u) (district_row_lem s net v))
-      (subst (λ x. Gives s x (meet s (district_row_lem s net u) (district_row_lem s net v))) (agrees k u v ju jv e refl)
-      (subst (λ p. Gives s (district_best s net k u v) (meet s p (district_row_lem s net v))) (sym (district_row_at s net k u e))
+      giving_answers s net walks no_walk u v (meet s (district_row s net u) (district_row s net v))
+      (subst (λ x. Gives s x (meet s (district_row s net u) (district_row s net v))) (agrees k u v ju jv e refl)
+      (subst (λ p. Gives s (district_best s net k u v) (meet s p (district_row s net v))) (sym (district_row_at s net k u e))
       (two_rows_give s laws (district_best s net k) (dist k) (λ i. get_or (members net k) i 0) (members net k) (members_rise net k) u v
       (junction_covers k u v ju e))))
 
   pub district_entry_is_needed :
-      (v : ℕ) (e : Entry) → Junction net v → In e (district_row_lem s net v)
-      → FallsShort s (best s net e.hub v) (meet s (struck e.hub (district_row_lem s net v)) (district_row_lem s net e.hub))
+      (v : ℕ) (e : Entry) → Junction net v → In e (district_row s net v)
+      → FallsShort s (best s net e.hub v) (meet s (struck e.hub (district_row s net v)) (district_row s net e.hub))
   district_entry_is_needed v e jv h =
       let k : ℕ = district net v in
       let r = in_row s (district_best s net k) (λ i. get_or (members net k) i 0) (members net k) v e h in
       let b : ℕ = get_or (members net k) r.rank 0 in
       let inside = member_is_inside net k r.rank r.below in
       let falls = entry_is_needed s laws (district_best s net k) (dist k) (λ i. get_or (members net k) i 0) (members net k) (members_rise net k) v e r in
-      let with_row : FallsShort s (district_best s net k b v) (meet s (struck e.hub (district_row_lem s net v)) (district_row_lem s net b)) =
-      subst (λ q. FallsShort s (district_best s net k b v) (meet s (struck e.hub (district_row_lem s net v)) q))
+      let with_row : FallsShort s (district_best s net k b v) (meet s (struck e.hub (district_row s net v)) (district_row s net b)) =
+      subst (λ q. FallsShort s (district_best s net k b v) (meet s (struck e.hub (district_row s net v)) q))
       (sym (district_row_at s net k b inside.1)) falls in
-      let with_best : FallsShort s (best s net b v) (meet s (struck e.hub (district_row_lem s net v)) (district_row_lem s net b)) =
-      subst (λ x. FallsShort s x (meet s (struck e.hub (district_row_lem s net v)) (district_row_lem s net b)))
+      let with_best : FallsShort s (best s net b v) (meet s (struck e.hub (district_row s net v)) (district_row s net b)) =
+      subst (λ x. FallsShort s x (meet s (struck e.hub (district_row s net v)) (district_row s net b)))
       (agrees k b v inside.0 jv inside.1 refl) with_row in
-      subst (λ c. FallsShort s (best s net c v) (meet s (struck e.hub (district_row_lem s net v)) (district_row_lem s net c)))
+      subst (λ c. FallsShort s (best s net c v) (meet s (struck e.hub (district_row s net v)) (district_row s net c)))
       (sym r.hub_is) with_best
 
 module _ (s : Scale) (laws : Laws s) (net : Network) (order : List ℕ) (dist : Distance s (best s net))
@@ -132,10 +132,10 @@ module _ (s : Scale) (laws : Laws s) (net : Network) (order : List ℕ) (dist : 
   pub cells_follow_from_entries_lem : CellsFollowFromEntries s net order
   cells_follow_from_entries_lem = record {
     for_border_cells = λ i v low j.
-        looking_up_is_enough s laws (best s net) dist (λ r. r) order (ranks_rise (length order)) (border_row_lem s net order) i v low refl refl;
+        looking_up_is_enough s laws (best s net) dist (λ r. r) order (ranks_rise (length order)) (border_row s net order) i v low refl refl;
     for_district_cells = λ i k v low j e.
         looking_up_is_enough s laws (district_best s net k) (district_dist k) (λ r. get_or (members net k) r 0) (members net k)
-        (members_rise net k) (district_row_lem s net) i v low
+        (members_rise net k) (district_row s net) i v low
         (district_row_at s net k (get_or (members net k) i 0) (member_is_inside net k i low).1) (district_row_at s net k v e);
   }
 
@@ -143,7 +143,7 @@ module _ (s : Scale) (laws : Laws s) (net : Network) (order : List ℕ) (dist : 
   rows_ascend_lem = record {
     border_ranks_ascend = λ v. row_ascends s (best s net) (λ i. i) order v (ranks_rise (length order));
     border_ranks_are_below = λ v.
-        all_from_in (λ e. e.hub < length order) (border_row_lem s net order v)
+        all_from_in (λ e. e.hub < length order) (border_row s net order v)
         (λ e h. let r = in_row s (best s net) (λ i. i) order v e h in
         subst (λ x. x < length order) (sym r.hub_is) r.below);
     border_values_are_proper = λ v. row_is_proper s (best s net) (λ i. i) order v dist.is_a_value;
@@ -152,7 +152,7 @@ module _ (s : Scale) (laws : Laws s) (net : Network) (order : List ℕ) (dist : 
         row_ascends s (district_best s net k) (λ i. get_or (members net k) i 0) (members net k) v (members_rise net k);
     district_hubs_are_members = λ v.
         let k : ℕ = district net v in
-        all_from_in (λ e. Junction net e.hub × (district net e.hub ≡ k)) (district_row_lem s net v)
+        all_from_in (λ e. Junction net e.hub × (district net e.hub ≡ k)) (district_row s net v)
         (λ e h. let r = in_row s (district_best s net k) (λ i. get_or (members net k) i 0) (members net k) v e h in
         subst (λ x. Junction net x × (district net x ≡ k)) (sym r.hub_is) (member_is_inside net k r.rank r.below));
     district_values_are_proper = λ v.

@@ -5,7 +5,7 @@ use Rattle.measure.specs.Measures.{metres}
 use Rattle.network.specs.Walks.{best_within}
 use Rattle.network.specs.Networks.{Network, district, best}
 use Rattle.network.specs.Labels.{Entry, entry, row, put_cell, meet}
-use Rattle.network.specs.Rows.{border_row_lem, inner_arcs, members}
+use Rattle.network.specs.Rows.{border_row, inner_arcs, members}
 use Rattle.network.specs.Worked.{six, six_order}
 
 -- a district row made without shortcuts: best is taken over the arcs inside the district alone
@@ -36,4 +36,4 @@ row_that_keeps_ties s d earlier (b ∷ bs) v =
 abbrev pub KeptTiesAddEntries : Type 0
 KeptTiesAddEntries =
     (row_that_keeps_ties metres (best metres six) [] six_order 1 ≡ entry 0 0 ∷ entry 1 450 ∷ entry 2 250 ∷ entry 3 100 ∷ [])
-    × (border_row_lem metres six six_order 1 ≡ entry 0 0 ∷ [])
+    × (border_row metres six six_order 1 ≡ entry 0 0 ∷ [])

@@ -7,8 +7,8 @@ use Rattle.network.specs.Networks.{Network, district, arcs, best, borders}
 use Rattle.network.specs.Labels.{Entry, row}
 
 -- the border row of v under a border order: its hubs are the borders, named by their rank in the order, from 0
-abbrev pub border_row_lem : Scale → Network → List ℕ → ℕ → List Entry
-border_row_lem s net order v = row s (best s net) (λ i. i) order v
+abbrev pub border_row : Scale → Network → List ℕ → ℕ → List Entry
+border_row s net order v = row s (best s net) (λ i. i) order v
 
 -- the arc runs inside district k
 abbrev pub runs_inside : Network → ℕ → Arc → Bool
@@ -51,6 +51,6 @@ abbrev pub members : Network → ℕ → List ℕ
 members net k = filter (λ v. district net v == k) (count_up 1 net.junctions)
 
 -- the district row of v: its hubs are the junctions of its district, named by their numbers
-abbrev pub district_row_lem : Scale → Network → ℕ → List Entry
-district_row_lem s net v =
+abbrev pub district_row : Scale → Network → ℕ → List Entry
+district_row s net v =
     row s (district_best s net (district net v)) (λ i. slice_index (members net (district net v)) i) (members net (district net v)) v

@@ -6,7 +6,7 @@ use Rattle.network.specs.Lists.{In}
 use Rattle.network.specs.Walks.{Arc, Walk, walk_value, Walked, BestOf, Best}
 use Rattle.network.specs.Networks.{Network, Junction, Sound, district, arcs, best, is_border}
 use Rattle.network.specs.Labels.{Entry, cell, value_at, meet, struck, Ascends}
-use Rattle.network.specs.Rows.{border_row_lem, inner_arcs, district_arcs, district_best, members, district_row_lem}
+use Rattle.network.specs.Rows.{border_row, inner_arcs, district_arcs, district_best, members, district_row}
 
 -- A network that a book may be made of: sound, and within the limit on junctions, which keeps best values apart from none.
 pub record Allowed (s : Scale) (net : Network) : Type 0 where
@@ -38,7 +38,7 @@ Answers s net u v (Some e) =
 abbrev pub BorderRowsAnswer : Scale → Network → List ℕ → Type 0
 BorderRowsAnswer s net order =
     (u v : ℕ) → Junction net u → Junction net v → (district net u ≢ district net v)
-    → Answers s net u v (meet s (border_row_lem s net order u) (border_row_lem s net order v))
+    → Answers s net u v (meet s (border_row s net order u) (border_row s net order v))
 
 -- Two junctions in one district: best in the district's network is best in the whole network, and their district rows joined
 -- give it.
@@ -48,7 +48,7 @@ pub record DistrictRowsAnswer (s : Scale) (net : Network) : Type 0 where
       → Best s (district_arcs s net k) u v (best s net u v) × (district_best s net k u v ≡ best s net u v)
   pub district_rows_joined :
       (u v : ℕ) → Junction net u → Junction net v → district net u ≡ district net v
-      → Answers s net u v (meet s (district_row_lem s net u) (district_row_lem s net v))
+      → Answers s net u v (meet s (district_row s net u) (district_row s net v))
 
 -- Where a walk inside district k may begin, for values from u, and with what value: at u with start, or at a border of the
 -- district that u reaches, with the best value from u to it.
@@ -76,12 +76,12 @@ FallsShort s x (Some e) = s.better x e.worth ≡ true
 -- With any one entry struck from its row, that row joined with its hub's own row falls short of the best between the two.
 pub record EveryEntryIsNeeded (s : Scale) (net : Network) (order : List ℕ) : Type 0 where
   pub in_border_rows :
-      (v : ℕ) (e : Entry) → Junction net v → In e (border_row_lem s net order v)
+      (v : ℕ) (e : Entry) → Junction net v → In e (border_row s net order v)
       → FallsShort s (best s net (slice_index order e.hub) v)
-      (meet s (struck e.hub (border_row_lem s net order v)) (border_row_lem s net order (slice_index order e.hub)))
+      (meet s (struck e.hub (border_row s net order v)) (border_row s net order (slice_index order e.hub)))
   pub in_district_rows :
-      (v : ℕ) (e : Entry) → Junction net v → In e (district_row_lem s net v)
-      → FallsShort s (best s net e.hub v) (meet s (struck e.hub (district_row_lem s net v)) (district_row_lem s net e.hub))
+      (v : ℕ) (e : Entry) → Junction net v → In e (district_row s net v)
+      → FallsShort s (best s net e.hub v) (meet s (struck e.hub (district_row s net v)) (district_row s net e.hub))
 
 -- The cell of v under hub number i can be told from entries alone: the best value from the hub b to v is not none, and each
 -- earlier hub that has an entry in both rows, b's and v's, gives worse. `rows` has the row of each junction, and
@@ -100,11 +100,11 @@ pub record LookingUpIsEnough (s : Scale) (d : ℕ → ℕ → ℕ) (rows : ℕ �
 pub record CellsFollowFromEntries (s : Scale) (net : Network) (order : List ℕ) : Type 0 where
   pub for_border_cells :
       (i v : ℕ) → i < length order → Junction net v
-      → LookingUpIsEnough s (best s net) (border_row_lem s net order) (λ j. j) i (slice_index order i) v
+      → LookingUpIsEnough s (best s net) (border_row s net order) (λ j. j) i (slice_index order i) v
       (cell s (best s net) (take i order) (slice_index order i) v)
   pub for_district_cells :
       (i k v : ℕ) → i < length (members net k) → Junction net v → district net v ≡ k
-      → LookingUpIsEnough s (district_best s net k) (district_row_lem s net) (λ j. slice_index (members net k) j) i (slice_index (members net k) i) v
+      → LookingUpIsEnough s (district_best s net k) (district_row s net) (λ j. slice_index (members net k) j) i (slice_index (members net k) i) v
       (cell s (district_best s net k) (take i (members net k)) (slice_index (members net k) i) v)
 
 -- a value other than none
@@ -113,9 +113,9 @@ Proper s x = Value s x × (x ≢ s.none)
 
 -- Rows ascend strictly by rank or hub, and their values are values other than none.
 pub record RowsAscend (s : Scale) (net : Network) (order : List ℕ) : Type 0 where
-  pub border_ranks_ascend : (v : ℕ) → Ascends (border_row_lem s net order v)
-  pub border_ranks_are_below : (v : ℕ) → AllByRecursion (λ e. e.hub < length order) (border_row_lem s net order v)
-  pub border_values_are_proper : (v : ℕ) → AllByRecursion (λ e. Proper s e.worth) (border_row_lem s net order v)
-  pub district_hubs_ascend : (v : ℕ) → Ascends (district_row_lem s net v)
-  pub district_hubs_are_members : (v : ℕ) → AllByRecursion (λ e. Junction net e.hub × (district net e.hub ≡ district net v)) (district_row_lem s net v)
-  pub district_values_are_proper : (v : ℕ) → AllByRecursion (λ e. Proper s e.worth) (district_row_lem s net v)
+  pub border_ranks_ascend : (v : ℕ) → Ascends (border_row s net order v)
+  pub border_ranks_are_below : (v : ℕ) → AllByRecursion (λ e. e.hub < length order) (border_row s net order v)
+  pub border_values_are_proper : (v : ℕ) → AllByRecursion (λ e. Proper s e.worth) (border_row s net order v)
+  pub district_hubs_ascend : (v : ℕ) → Ascends (district_row s net v)
+  pub district_hubs_are_members : (v : ℕ) → AllByRecursion (λ e. Junction net e.hub × (district net e.hub ≡ district net v)) (district_row s net v)
+  pub district_values_are_proper : (v : ℕ) → AllByRecursion (λ e. Proper s e.worth) (district_row s net v)

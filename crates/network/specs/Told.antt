@@ -1,5 +1,5 @@
--- What runs of cells tell: a next cell, a value, a row. A word that is no value counts as none. Code that builds rows from a
--- table of cells cites this. Assumes nothing.
+-- What runs of cells tell: a next cell, a value, a row. Words that are no values are taken for none. Code that builds rows from a
+-- table of cells will cite this. Assumes nothing.
 use Rattle.std.specs.Prelude.{ℕ, ◌+◌, Bool, false, cond, not, ◌||◌, List, [], ◌∷◌}
 use Rattle.measure.specs.Scale.{Scale, counts}
 use Rattle.network.specs.Labels.{Entry, put_cell}

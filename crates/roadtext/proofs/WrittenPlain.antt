@@ -8,7 +8,7 @@ use Rattle.roadtext.specs.declared.parts.Arc.{Arc}
 use Rattle.roadtext.specs.declared.parts.Two.{Two}
 use Rattle.roadtext.specs.Text.{fields}
 use Rattle.roadtext.specs.Reading.{Room, is_comment}
-use Rattle.roadtext.specs.Written.{spaced, head_line, arc_lines, move_line_lem, move_lines, ask_line, ask_lines, written_lines}
+use Rattle.roadtext.specs.Written.{spaced, head_line, arc_lines, move_line, move_lines, ask_line, ask_lines, written_lines}
 use Rattle.roadtext.specs.Written.{Lacks, without_comments, WritableRoad, WritableMove, WritableAsk, Writable}
 use Rattle.roadtext.proofs.WrittenFields.{fields_of_spaced, spaced_lacks, letter_line_lacks, head_line_lacks, fields_of_letter_line}
 
@@ -50,8 +50,8 @@ nothing_taken_out (line ∷ ls) (h, t) =
 module _ (s : Scale) (room : Room) (n : ℕ) (roads : List Arc) (moves asks : List Two) (w : Writable s room n roads moves asks) where
   moves_are_plain : AllByRecursion Plain (move_lines moves)
   moves_are_plain =
-      All-map Plain (λ m. move_line_lem m.left m.right) moves
-      (All-weaker (WritableMove n) (λ m. Plain (move_line_lem m.left m.right))
+      All-map Plain (λ m. move_line m.left m.right) moves
+      (All-weaker (WritableMove n) (λ m. Plain (move_line m.left m.right))
       (λ m h. letter_line_is_plain 100 (inl (omega arith)) (m.left ∷ m.right ∷ []) (omega arith, (omega arith, tt)))
       moves w.each_move)
 

@@ -22,8 +22,8 @@ abbrev pub arc_line : ℕ → ℕ → ℕ → List ℕ
 arc_line u v x = spaced (97 ∷ []) (decimal u ∷ decimal v ∷ decimal x ∷ [])
 
 -- `d J D`
-abbrev pub move_line_lem : ℕ → ℕ → List ℕ
-move_line_lem j d = spaced (100 ∷ []) (decimal j ∷ decimal d ∷ [])
+abbrev pub move_line : ℕ → ℕ → List ℕ
+move_line j d = spaced (100 ∷ []) (decimal j ∷ decimal d ∷ [])
 
 -- `q S T`
 abbrev pub ask_line : ℕ → ℕ → List ℕ
@@ -35,7 +35,7 @@ arc_lines [] = []
 arc_lines (a ∷ more) = arc_line a.from a.to a.worth ∷ arc_line a.to a.from a.worth ∷ arc_lines more
 
 abbrev pub move_lines : List Two → List (List ℕ)
-move_lines moves = map (λ m. move_line_lem m.left m.right) moves
+move_lines moves = map (λ m. move_line m.left m.right) moves
 
 abbrev pub ask_lines : List Two → List (List ℕ)
 ask_lines asks = map (λ q. ask_line q.left q.right) asks

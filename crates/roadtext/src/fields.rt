@@ -1,6 +1,6 @@
 // The fields of a line, and the numbers that they write.
 ghost use Rattle.std.specs.Prelude.{◌≡◌, ◌<◌, ◌≤◌, length, if◌then◌else◌, Some, None};
-ghost use Rattle.roadtext.specs.Text.{place_of, number as number_of_lem, all_digits, digits_after, fields, field as field_of};
+ghost use Rattle.roadtext.specs.Text.{place_of, number as number_of, all_digits, digits_after, fields, field as field_of};
 ghost use Rattle.std.specs.Option.{option_map};
 
 // The number that the bytes write, if they are decimal digits and no more than fit.
@@ -20,7 +20,7 @@ fn read_digits(text: &[u8]) -> Option<u64>
 
 // The number that a field writes, if it has 1 to 10 digits and nothing else.
 pub(crate) fn number(text: &[u8]) -> Option<u64>
-    ensures { result ≡ number_of_lem text.now }
+    ensures { result ≡ number_of text.now }
 {
     if text.len() < 1 || text.len() > 10 {
         return None;

@@ -1,5 +1,5 @@
 use Rattle.std.proofs.Common.{◌≡◌, ◌+◌, ◌-◌, ◌*◌, sym, arith}
-use Rattle.book.specs.Bad.{entry_count_lem, bad_entry_lem}
+use Rattle.book.specs.Bad.{entry_count, bad_entry_lem}
 use Rattle.book.proofs.RowsOfEntries.{offsets_begin_at_zero, offsets_end_at_the_count, offset_within}
 use Rattle.book.proofs.Searches.{none_further, found_further}
 use Rattle.book.proofs.entries.bad_entry.Goals as goal
@@ -30,7 +30,7 @@ returns-in-Some g c =
     let test = bad_entry_lem g.M.Measure.scale c.args.words.now c.args.counts.now c.args.names in
     let within = offset_within c.args.words.now c.args.counts.now c.args.names c.requires.1 c.loop-junction.junction (omega arith) in
     found_further test 0 (2 * c.loop-junction.from) (2 * c.offset_word-to.result)
-    (2 * entry_count_lem c.args.counts.now c.args.names) c.in-Some.place (omega arith) (omega arith)
+    (2 * entry_count c.args.counts.now c.args.names) c.in-Some.place (omega arith) (omega arith)
     c.loop-junction.invariant.1 c.in-Some.ensures
 
 pub loop-junction-preserved : goal.loop-junction-preserved
