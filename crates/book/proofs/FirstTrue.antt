@@ -1,5 +1,5 @@
 -- The first of a list of tests that holds is what a search through the list finds. Assumes nothing.
-use Rattle.std.proofs.Common.{◌≡◌, ℕ, suc, ◌+◌, ◌-◌, ◌≤◌, Bool, true, false, List, [], ◌∷◌, length, get_or, Option, sym, refl, subst, zero-add, arith}
+use Rattle.std.proofs.Common.{◌≡◌, ℕ, suc, ◌+◌, ◌-◌, ◌<◌, ◌≤◌, Bool, true, false, List, [], ◌∷◌, length, get_or, Option, sym, refl, subst, zero-add, arith}
 use native.Mathlib.Nat.{sub-zero}
 use Rattle.book.specs.Bad.{Finds}
 use Rattle.book.specs.Found.{first_true}
@@ -11,7 +11,7 @@ first_true_finds k (true ∷ bs) =
     (omega arith, omega arith, (let e : k - k ≡ 0 = omega arith in rw e refl), λ j low less. absurd (omega arith))
 first_true_finds k (false ∷ bs) =
     let e : k - k ≡ 0 = omega arith in
-    let same : (j : ℕ) → k + 1 ≤ j → get_or bs (j - (k + 1)) false ≡ get_or (false ∷ bs) (j - k) false = λ j low.
+    let same : (j : ℕ) → k + 1 ≤ j → j < k + suc (length bs) → get_or bs (j - (k + 1)) false ≡ get_or (false ∷ bs) (j - k) false = λ j low high.
     let f : j - k ≡ suc (j - (k + 1)) = omega arith in rw f refl
     in
     let size : k + suc (length bs) ≡ k + 1 + length bs = omega arith in

@@ -15,11 +15,13 @@ pub mod LaidEndToEnd
 pub mod Merge
 pub mod NothingBad
 pub mod Parts
+pub mod Pieces
 pub mod RowAt
 pub mod RowOfBook
 pub mod RowOffsets
 pub mod RowsInWords
 pub mod RowsOfEntries
+pub mod RowsSearched
 pub mod Searches
 pub mod SectionWords
 pub mod Telling

@@ -1,6 +1,7 @@
 -- Where the first bad word of a list of parts stands. Assumes nothing.
 use Rattle.std.proofs.Common.{◌≡◌, ℕ, ◌+◌, ◌-◌, ◌<◌, ◌≤◌, Bool, true, false, ◌&&◌, ◌||◌, ltb, leb, List, [], ◌∷◌, ◌++◌, Some, None, Option, sym, refl, ◌∙◌, subst, ⊎_elim, arith}
 use Rattle.std.specs.List.{AllByRecursion}
+use Rattle.std.specs.Option.{MatchOption, IsSomeAnd}
 use Rattle.std.proofs.lemmas.Bool.{both_ways, cases_Bool, cases_lt, or_parts, or_from, or_left, or_right, or_cases, and_parts, and_left, and_right, lt-leb, le-ltb, le-leb, lt-ltb, ltb-true, false≢true}
 use Rattle.book.specs.Layout.{after}
 use Rattle.book.specs.Bad.{Part, bad_in, Finds}
@@ -119,19 +120,20 @@ first_in_rest ps qs (Some i) none h = (
   λ j less. bad_in_append ps qs j ∙ or_from (bad_in ps j) (bad_in qs j) (none j) (h.1 j less),
 )
 
--- two parts, one after the other, of n and of m words
-module _ (p q : Part) (n m : ℕ) (front : p.lies.size ≡ n) (back : q.lies.size ≡ m) (follows : q.lies.first ≡ after p.lies) where
-  pub pair_front : (j first : ℕ) → first ≡ p.lies.first → Finds p.bad 0 n (Some j) → FirstIn (p ∷ q ∷ []) (Some (first + j))
-  pair_front j first is h =
-      subst (λ f. FirstIn (p ∷ q ∷ []) (Some (f + j))) (sym is)
-      (first_in_front p.lies.first (p ∷ []) (q ∷ []) (refl, (follows, tt)) (p.lies.first + j)
-      (alone_some p j (subst (λ k. Finds p.bad 0 k (Some j)) (sym front) h)))
+-- the first bad word of the parts before, and if there is none, whatever is found in the parts after
+pub first_of_both :
+    (f : ℕ) (ps qs : List Part) → Chain f (ps ++ qs) → (a r : Option ℕ) {P : Type 0} → FirstIn ps a → MatchOption a P (λ i. r ≡ Some i)
+    → (P → FirstIn qs r) → FirstIn (ps ++ qs) r
+first_of_both f ps qs chain None r h after k = first_in_rest ps qs r h (k after)
+first_of_both f ps qs chain (Some i) r h same k = subst (FirstIn (ps ++ qs)) (sym same) (first_in_front f ps qs chain i h)
 
-  pub pair_back : (j first : ℕ) → first ≡ q.lies.first → Finds p.bad 0 n None → Finds q.bad 0 m (Some j) → FirstIn (p ∷ q ∷ []) (Some (first + j))
-  pair_back j first is none h =
-      subst (λ f. FirstIn (p ∷ q ∷ []) (Some (f + j))) (sym is)
-      (first_in_rest (p ∷ []) (q ∷ []) (Some (q.lies.first + j)) (nothing_is_bad (p ∷ []) (part_is_good p n front none, tt))
-      (alone_some q j (subst (λ k. Finds q.bad 0 k (Some j)) (sym back) h)))
-
-  pub pair_good : Finds p.bad 0 n None → Finds q.bad 0 m None → FirstIn (p ∷ q ∷ []) None
-  pair_good none h = nothing_is_bad (p ∷ q ∷ []) (part_is_good p n front none, (part_is_good q m back h, tt))
+-- the first bad word of a part of n words, found as its word number j and turned into its place
+pub first_of_part :
+    (p : Part) (n : ℕ) → p.lies.size ≡ n → (a r : Option ℕ) {P : ℕ → ℕ → Type 0} → Finds p.bad 0 n a
+    → MatchOption a (r ≡ None) (λ j. IsSomeAnd r (P j)) → ((j i : ℕ) → P j i → i ≡ p.lies.first + j) → FirstIn (p ∷ []) r
+first_of_part p n size None r h none place =
+    subst (FirstIn (p ∷ [])) (sym none) (nothing_is_bad (p ∷ []) (part_is_good p n size h, tt))
+first_of_part p n size (Some j) None h there place = absurd there
+first_of_part p n size (Some j) (Some i) h there place =
+    subst (λ k. FirstIn (p ∷ []) (Some k)) (sym (place j i there))
+    (alone_some p j (subst (λ k. Finds p.bad 0 k (Some j)) (sym size) h))

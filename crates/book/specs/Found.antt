@@ -1,7 +1,8 @@
 -- What the functions that look for the first bad word answer. Assumes nothing.
 use Rattle.std.specs.Prelude.{◌≡◌, ℕ, ◌+◌, ◌*◌, ◌<◌, ◌≤◌, Bool, true, false, cond, List, [], ◌∷◌, length, Some, None, Option, slice_index_or}
 use Rattle.book.specs.declared.counts.Counts.{Counts}
-use Rattle.book.specs.Bad.{among, Part, bad_in}
+use Rattle.book.specs.Layout.{Section}
+use Rattle.book.specs.Bad.{among, Part, part, bad_in}
 
 -- the place of the first test that holds, if the first of the list stands at place k
 abbrev pub first_true : ℕ → List Bool → Option ℕ
@@ -12,6 +13,10 @@ first_true k (b ∷ bs) = cond b (Some k) (first_true (k + 1) bs)
 abbrev pub FirstIn : List Part → Option ℕ → Type 0
 FirstIn ps None = (j : ℕ) → bad_in ps j ≡ false
 FirstIn ps (Some i) = (bad_in ps i ≡ true) × ((j : ℕ) → j < i → bad_in ps j ≡ false)
+
+-- r is the place of the first bad word in one part, if there is one
+abbrev pub FirstInPart : Section → (ℕ → Bool) → Option ℕ → Type 0
+FirstInPart x test r = FirstIn (part x test ∷ []) r
 
 -- the counts lie within their limits, but for the number of words
 pub record Few (c : Counts) : Type 0 where

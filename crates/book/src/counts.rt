@@ -1,7 +1,7 @@
 // The counts of a book, and the sections that they give.
 
 // How many junctions, districts, borders, border entries, district entries and words a book says that it has.
-#[derive(Clone, Copy)]
+#[derive(Clone, Copy, PartialEq, Eq, Debug)]
 pub struct Counts {
     pub junctions: u64,
     pub districts: u64,

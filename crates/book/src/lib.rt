@@ -5,6 +5,7 @@ mod counts;
 mod cursor;
 mod entries;
 mod joining;
+mod laid;
 mod meeting;
 mod names;
 mod opened;

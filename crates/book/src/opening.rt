@@ -1,48 +1,52 @@
 // Opening a book.
-ghost use Rattle.std.specs.Prelude.{◌≡◌, ◌+◌, ◌<◌, ◌≤◌, [], length, take};
-ghost use Rattle.book.specs.Bad.{count_faults, bad_district_lem, bad_border_lem, bad_offset_lem, place_parts, row_parts, Finds, parts};
-ghost use Rattle.book.specs.Found.{first_true, FirstIn, Few, Marks};
-ghost use Rattle.book.specs.Layout.{counts_of, total, words_in, order_at};
+ghost use Rattle.std.specs.Prelude.{◌≡◌, ◌+◌, ◌<◌, ◌≤◌, [], ◌++◌, length, take};
+ghost use Rattle.book.specs.Bad.{count_faults, bad_district_lem, bad_border_lem, bad_offset_lem, offsets_at, place_parts, row_parts, parts};
+ghost use Rattle.book.specs.Found.{first_true, FirstIn, FirstInPart, Few, Marks};
+ghost use Rattle.book.specs.Layout.{counts_of, total, words_in, places_at, order_at};
 ghost use Rattle.book.specs.Opened.{open_checks, OpensExactlyBooks};
 ghost use Rattle.book.specs.Ready.{Ready};
-ghost use Rattle.drawing.specs.Outcomes.{verdict};
+ghost use Rattle.book.specs.declared.names.Names.TheVariants.{Ranks, Hubs};
+ghost use Rattle.drawing.specs.Outcomes.{verdict, Ends};
 
-use super::entries::bad_entry;
+use super::laid::Laid;
 use super::names::Names;
-use super::sections::{offset_word, word_at};
 use super::{Book, Counts};
 use drawing::{MOST_DISTRICTS, MOST_JUNCTIONS, Refusal, Table};
 use measure::Measure;
 
-// What the words must have before any of them can be bad: the book's number, the measure's tag, and as many words as they say.
-fn check_open<M: Measure>(words: &[u64]) -> Result<(), Refusal>
-    ensures { result ≡ verdict (open_checks M.Measure.scale words.now) }
+// The counts that the words begin with, if these have what they must have before any of them can be bad: the book's number, the
+// measure's tag, and as many words as they say.
+fn read_counts<M: Measure>(words: &[u64]) -> Result<Counts, Refusal>
+    ensures { Ends (verdict (open_checks M.Measure.scale words.now)) result (Unit {0}) (λ c. c ≡ counts_of words.now) }
 {
-    if words.len() < 8 || words[0] != 1 {
+    let &[
+        1,
+        tag,
+        junctions,
+        districts,
+        borders,
+        border_entries,
+        district_entries,
+        said,
+        ..
+    ] = words
+    else {
         return Err(Refusal::NoBook);
-    }
-    if words[1] != M::tag_word() {
+    };
+    if tag != M::tag_word() {
         return Err(Refusal::OtherMeasure);
     }
-    if (words.len() as u64) < words[7] {
-        return Err(Refusal::ShortBook { words: words[7] });
+    if (words.len() as u64) < said {
+        return Err(Refusal::ShortBook { words: said });
     }
-    Ok(())
-}
-
-// The counts in words 2 to 7.
-fn read_counts(words: &[u64]) -> Counts
-    requires { 8 ≤ length words.now }
-    ensures { result ≡ counts_of words.now }
-{
-    Counts {
-        junctions: words[2],
-        districts: words[3],
-        borders: words[4],
-        border_entries: words[5],
-        district_entries: words[6],
-        words: words[7],
-    }
+    Ok(Counts {
+        junctions,
+        districts,
+        borders,
+        border_entries,
+        district_entries,
+        words: said,
+    })
 }
 
 // How many words a book with these counts has.
@@ -82,36 +86,6 @@ fn bad_count(counts: &Counts) -> Option<u64>
     None
 }
 
-// Whether the district of junction j + 1 is bad.
-fn is_bad_district(words: &[u64], counts: &Counts, j: u64) -> bool
-    requires { (Ready words.now counts.now) × (j < counts.now.junctions) }
-    ensures { result ≡ bad_district_lem words.now counts.now j }
-{
-    word_at(words, counts.places(), j) >= counts.districts
-}
-
-// The first bad district, counted from 0.
-fn bad_district(words: &[u64], counts: &Counts) -> Option<u64>
-    requires { Ready words.now counts.now }
-    ensures { Finds (bad_district_lem words.now counts.now) 0 counts.now.junctions result }
-{
-    for j in 0..counts.junctions {
-        if is_bad_district(words, counts, j) {
-            return Some(j);
-        }
-    }
-    None
-}
-
-// Whether the border of rank j is bad, where the borders before it are marked.
-fn is_bad_border(words: &[u64], counts: &Counts, seen: &[bool], j: u64) -> bool
-    requires { (Ready words.now counts.now) × ((j < counts.now.borders) × (Marks seen.now (take j (words_in (order_at counts.now) words.now)))) }
-    ensures { result ≡ bad_border_lem words.now counts.now j }
-{
-    let border = word_at(words, counts.order(), j);
-    border < 1 || border > counts.junctions || seen[border as usize]
-}
-
 // Marks of which none is set.
 fn no_marks() -> [bool; 4_097]
     ensures { Marks result [] }
@@ -119,101 +93,121 @@ fn no_marks() -> [bool; 4_097]
     [false; 4_097]
 }
 
-// The rank of the first bad border.
-fn bad_border(words: &[u64], counts: &Counts) -> Option<u64>
-    requires { Ready words.now counts.now }
-    ensures { Finds (bad_border_lem words.now counts.now) 0 counts.now.borders result }
-{
-    let mut seen = no_marks();
-    for j in 0..counts.borders {
-        if is_bad_border(words, counts, &seen, j) {
-            return Some(j);
+impl<'a> Laid<'a> {
+    // Whether the district of junction j + 1 is bad.
+    fn is_bad_district(&self, j: u64) -> bool
+        requires { j < self.now.counts.junctions }
+        ensures { result ≡ bad_district_lem self.now.words.now self.now.counts j }
+    {
+        self.district(j) >= self.counts.districts
+    }
+
+    // The place of the first bad district.
+    fn bad_district(&self) -> Option<u64>
+        ensures { FirstInPart (places_at self.now.counts) (bad_district_lem self.now.words.now self.now.counts) result }
+    {
+        let places = self.counts.places();
+        (0..self.counts.junctions)
+            .find(|&j| self.is_bad_district(j))
+            .map(|j| places.place(j))
+    }
+
+    // Whether the border of rank j is bad, where the borders before it are marked.
+    fn is_bad_border(&self, seen: &[bool], j: u64) -> bool
+        requires { (j < self.now.counts.borders) × (Marks seen.now (take j (words_in (order_at self.now.counts) self.now.words.now))) }
+        ensures { result ≡ bad_border_lem self.now.words.now self.now.counts j }
+    {
+        let border = self.border(j);
+        border < 1 || border > self.counts.junctions || seen[border as usize]
+    }
+
+    // The place of the first bad border.
+    fn bad_border(&self) -> Option<u64>
+        ensures { FirstInPart (order_at self.now.counts) (bad_border_lem self.now.words.now self.now.counts) result }
+    {
+        let order = self.counts.order();
+        let mut seen = no_marks();
+        for j in 0..self.counts.borders {
+            if self.is_bad_border(&seen, j) {
+                return Some(order.place(j));
+            }
+            seen[self.border(j) as usize] = true;
         }
-        seen[word_at(words, counts.order(), j) as usize] = true;
+        None
     }
-    None
-}
 
-// Whether offset number j is bad.
-fn is_bad_offset(words: &[u64], counts: &Counts, names: Names, j: u64) -> bool
-    requires { (Ready words.now counts.now) × (j ≤ counts.now.junctions) }
-    ensures { result ≡ bad_offset_lem words.now counts.now names j }
-{
-    let offset = offset_word(words, counts, names, j);
-    let falls = if j == 0 {
-        offset != 0
-    } else {
-        offset < offset_word(words, counts, names, j - 1)
-    };
-    let entries = counts.entry_count(names);
-    falls || offset > entries || (j == counts.junctions && offset != entries)
-}
-
-// The first bad offset, counted from 0.
-fn bad_offset(words: &[u64], counts: &Counts, names: Names) -> Option<u64>
-    requires { Ready words.now counts.now }
-    ensures { Finds (bad_offset_lem words.now counts.now names) 0 (counts.now.junctions + 1) result }
-{
-    for j in 0..counts.junctions + 1 {
-        if is_bad_offset(words, counts, names, j) {
-            return Some(j);
+    // The place of the first bad word of the districts and the border order.
+    fn bad_place(&self) -> Option<u64>
+        ensures { FirstIn (place_parts self.now.words.now self.now.counts) result }
+    {
+        // A match and no `or_else`: tried, bare and with a clause of its own, and no proof learns what the closure answered.
+        match self.bad_district() {
+            Some(place) => Some(place),
+            None => self.bad_border(),
         }
     }
-    None
-}
 
-// The place of the first bad word of the districts and the border order.
-fn bad_place(words: &[u64], counts: &Counts) -> Option<u64>
-    requires { Ready words.now counts.now }
-    ensures { FirstIn (place_parts words.now counts.now) result }
-{
-    if let Some(j) = bad_district(words, counts) {
-        return Some(counts.places().first + j);
+    // Whether offset number j is bad.
+    fn is_bad_offset(&self, names: Names, j: u64) -> bool
+        requires { j ≤ self.now.counts.junctions }
+        ensures { result ≡ bad_offset_lem self.now.words.now self.now.counts names j }
+    {
+        let offset = self.offset(names, j);
+        let falls = if j == 0 {
+            offset != 0
+        } else {
+            offset < self.offset(names, j - 1)
+        };
+        let entries = self.counts.entry_count(names);
+        falls || offset > entries || (j == self.counts.junctions && offset != entries)
     }
-    if let Some(j) = bad_border(words, counts) {
-        return Some(counts.order().first + j);
-    }
-    None
-}
 
-// The place of the first bad word of the rows that name their hubs so.
-fn bad_row<M: Measure>(words: &[u64], counts: &Counts, names: Names) -> Option<u64>
-    requires { Ready words.now counts.now }
-    ensures { FirstIn (row_parts M.Measure.scale words.now counts.now names) result }
-{
-    if let Some(j) = bad_offset(words, counts, names) {
-        return Some(counts.offsets(names).first + j);
+    // The place of the first bad offset of the rows that name their hubs so.
+    fn bad_offset(&self, names: Names) -> Option<u64>
+        ensures { FirstInPart (offsets_at self.now.counts names) (bad_offset_lem self.now.words.now self.now.counts names) result }
+    {
+        let offsets = self.counts.offsets(names);
+        (0..self.counts.junctions + 1)
+            .find(|&j| self.is_bad_offset(names, j))
+            .map(|j| offsets.place(j))
     }
-    if let Some(j) = bad_entry::<M>(words, counts, names) {
-        return Some(counts.entries(names).first + j);
+
+    // The place of the first bad word of those rows.
+    fn bad_row<M: Measure>(&self, names: Names) -> Option<u64>
+        ensures { FirstIn (row_parts M.Measure.scale self.now.words.now self.now.counts names) result }
+    {
+        self.bad_offset(names)
+            .or_else(|| self.bad_entry::<M>(names))
     }
-    None
+
+    // The place of the first bad word after the counts.
+    fn bad_after_counts<M: Measure>(&self) -> Option<u64>
+        ensures { FirstIn (place_parts self.now.words.now self.now.counts ++ (row_parts M.Measure.scale self.now.words.now self.now.counts Ranks ++ row_parts M.Measure.scale self.now.words.now self.now.counts Hubs)) result }
+    {
+        self.bad_place()
+            .or_else(|| self.bad_row::<M>(Names::Ranks))
+            .or_else(|| self.bad_row::<M>(Names::Hubs))
+    }
 }
 
 // The place of the first bad word.
-fn first_bad<M: Measure>(words: &[u64], counts: &Counts) -> Option<u64>
-    requires { counts.now.words ≤ length words.now }
-    ensures { FirstIn (parts M.Measure.scale words.now counts.now) result }
+fn first_bad<M: Measure>(words: &[u64], counts: Counts) -> Option<u64>
+    requires { counts.words ≤ length words.now }
+    ensures { FirstIn (parts M.Measure.scale words.now counts) result }
 {
-    if let Some(place) = bad_count(counts) {
-        return Some(place);
-    }
-    if let Some(place) = bad_place(words, counts) {
-        return Some(place);
-    }
-    if let Some(place) = bad_row::<M>(words, counts, Names::Ranks) {
-        return Some(place);
-    }
-    bad_row::<M>(words, counts, Names::Hubs)
+    bad_count(&counts).or_else(
+        ||
+            requires { Ready words.now counts }
+        { Laid { words, counts }.bad_after_counts::<M>() },
+    )
 }
 
 // Opens the book that the words begin with.
 pub fn open<M: Measure>(words: &[u64]) -> Result<Book<'_>, Refusal>
     ensures { OpensExactlyBooks M.Measure.scale words.now result }
 {
-    check_open::<M>(words)?;
-    let counts = read_counts(words);
-    match first_bad::<M>(words, &counts) {
+    let counts = read_counts::<M>(words)?;
+    match first_bad::<M>(words, counts) {
         Some(place) => Err(Refusal::BadEntry {
             table: Table::Book,
             place,

@@ -35,10 +35,10 @@ impl<'a> Book<'a> {
     pub(crate) fn word_in(&self, section: Span, j: u64) -> u64
         ensures { IsWord self.now.words.now section j result }
     {
-        match self.words.get(section.first.saturating_add(j) as usize) {
-            Some(word) => *word,
-            None => 0,
-        }
+        self.words
+            .get(section.first.saturating_add(j) as usize)
+            .copied()
+            .unwrap_or(0)
     }
 
     // Offset number j of the rows with these names.

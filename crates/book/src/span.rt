@@ -1,9 +1,9 @@
 // Where a section of a book lies.
-ghost use Rattle.std.specs.Prelude.{◌≡◌, ◌+◌, ◌-◌, ◌≤◌, min};
+ghost use Rattle.std.specs.Prelude.{◌≡◌, ◌+◌, ◌-◌, ◌<◌, ◌≤◌, min};
 
 // A section of a book: the place of its first word, its length in words, and the number of all words of the book, past which it
 // does not reach.
-#[derive(Clone, Copy)]
+#[derive(Clone, Copy, PartialEq, Eq, Debug)]
 pub struct Span {
     pub(crate) first: u64,
     pub(crate) length: u64,
@@ -25,6 +25,23 @@ impl Span {
             length,
             total,
         }
+    }
+
+    // The span of this length that begins where this one ends, cut off in the same way.
+    pub(crate) fn next(&self, length: u64) -> Span
+        ensures first { result.first ≡ self.now.first + self.now.length }
+        ensures length { result.length ≡ min length (self.now.total - (self.now.first + self.now.length)) }
+        ensures total { result.total ≡ self.now.total }
+    {
+        Span::new(self.after(), length, self.total)
+    }
+
+    // The place of the span's word number j.
+    pub(crate) fn place(&self, j: u64) -> u64
+        requires { j < self.now.length }
+        ensures { result ≡ self.now.first + j }
+    {
+        self.first + j
     }
 
     // The place after the span's last word.
