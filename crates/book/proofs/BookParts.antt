@@ -69,9 +69,11 @@ module _ (s : Scale) (ws : List ℕ) (c : Counts) where
       (first_of_both 8 (place_parts ws c) ranks (refl, (refl, (refl, (refl, tt)))) a b places to_ranks above) to_hubs inside
 
   -- all parts
-  pub in_book :
-      (a r : Option ℕ) {P : Type 0} → a ≡ first_true 0 (count_faults c) → MatchOption a P (λ i. r ≡ Some i)
-      → (P → FirstIn (place_parts ws c ++ (ranks ++ hubs)) r) → FirstIn (parts s ws c) r
-  in_book a r is then rest =
-      first_of_both 0 (count_parts c) (place_parts ws c ++ (ranks ++ hubs))
-      (refl, (refl, (refl, (refl, (refl, (refl, (refl, tt))))))) a r (in_counts c a is) then rest
+  pub book_by_counts : (i : ℕ) → Some i ≡ first_true 0 (count_faults c) → FirstIn (parts s ws c) (Some i)
+  book_by_counts i is =
+      first_in_front 0 (count_parts c) (place_parts ws c ++ (ranks ++ hubs)) (refl, (refl, (refl, (refl, (refl, (refl, (refl, tt)))))))
+      i (in_counts c (Some i) is)
+
+  pub book_by_sections :
+      (r : Option ℕ) → None ≡ first_true 0 (count_faults c) → FirstIn (place_parts ws c ++ (ranks ++ hubs)) r → FirstIn (parts s ws c) r
+  book_by_sections r is h = first_in_rest (count_parts c) (place_parts ws c ++ (ranks ++ hubs)) r (in_counts c None is) h

@@ -7,7 +7,6 @@ use Rattle.drawing.specs.Outcomes.{refuse, verdict, Ends}
 use Rattle.drawing.specs.declared.refusal.Refusal.TheVariants.{NoJunction}
 use Rattle.book.specs.Layout.{word, counts_of, Section, Spans, IsSection, places_at, order_at}
 use Rattle.book.specs.Opened.{IsBook, Shows}
-use Rattle.book.specs.Parts.{IsWord}
 use Rattle.book.specs.Told.{border_order, border_of}
 use Rattle.book.specs.declared.counts.Counts.{Counts}
 use Rattle.book.specs.declared.opened.Book.{Book}
@@ -21,31 +20,27 @@ pub border_of_rank : (ws : List ℕ) (rank : ℕ) → rank < word ws 4 → borde
 border_of_rank ws rank l =
     cond-true (ltb rank (word ws 4)) (Some (get_or (border_order ws) rank 0)) None (lt-ltb rank (word ws 4) l)
 
-module _ (s : Scale) (ws : List ℕ) (b : Book) (book : IsBook s ws) (shows : Shows ws b) where
-  -- what is read of a section of an opened book is its word
-  pub reads :
-      (lies : Counts → Section) (p : Span) (j x : ℕ) → IsSection b.counts lies p → IsWord b.words.now p j x
-      → j < (lies (counts_of ws)).size → x ≡ word ws ((lies (counts_of ws)).first + j)
-  reads lies p j x section h l =
-      let c = counts_of ws in
-      let good = ready s ws book in
-      let spans : Spans (lies c) c.words p =
-      subst (λ d. IsSection d lies p) shows.counts section (omega arith) in
-      let is_word : IsWord ws p j x = subst (λ w. IsWord w p j x) shows.words h in
-      is_word (subst (λ n. j < n) (sym spans.length) l) ∙ ap (λ f. word ws (f + j)) spans.first
+-- a word of a section that an opened book shows
+shown_word :
+    (lies : Counts → Section) (ws : List ℕ) (b : Book) (j x : ℕ) → Shows ws b
+    → x ≡ word b.laid.words.now ((lies b.laid.counts).first + j) → x ≡ word ws ((lies (counts_of ws)).first + j)
+shown_word lies ws b j x shows is =
+    is ∙ ap (λ c. word b.laid.words.now ((lies c).first + j)) shows.counts
+    ∙ ap (λ w. word w ((lies (counts_of ws)).first + j)) shows.words
 
-  pub tells_the_border :
-      (p : Span) (rank x : ℕ) → rank < b.counts.borders → IsSection b.counts order_at p → IsWord b.words.now p rank x
-      → Some x ≡ border_of ws rank
-  tells_the_border p rank x low section h =
-      let l : rank < word ws 4 = subst (λ c. rank < c.borders) shows.counts low in
-      ap Some (reads order_at p rank x section h l ∙ sym (section_word (order_at (counts_of ws)) ws rank l))
-      ∙ sym (border_of_rank ws rank l)
+pub tells_the_border :
+    (ws : List ℕ) (b : Book) (rank x : ℕ) → Shows ws b → rank < b.laid.counts.borders
+    → x ≡ word b.laid.words.now ((order_at b.laid.counts).first + rank) → Some x ≡ border_of ws rank
+tells_the_border ws b rank x shows low is =
+    let l : rank < word ws 4 = subst (λ c. rank < c.borders) shows.counts low in
+    ap Some (shown_word order_at ws b rank x shows is ∙ sym (section_word (order_at (counts_of ws)) ws rank l))
+    ∙ sym (border_of_rank ws rank l)
 
-  pub tells_the_district :
-      (p : Span) (v x : ℕ) → 1 ≤ v → v ≤ b.counts.junctions → IsSection b.counts places_at p → IsWord b.words.now p (v - 1) x
-      → Ends (verdict (refuse NoJunction (not (within 1 (word ws 2) v)) ∷ [])) (Ok x) (Unit {0})
-      (λ d. d ≡ word ws ((places_at (counts_of ws)).first + (v - 1)))
-  tells_the_district p v x low high section h =
-      let l : v ≤ word ws 2 = subst (λ c. v ≤ c.junctions) shows.counts high in
-      rw (is_within 1 (word ws 2) v low l) (reads places_at p (v - 1) x section h (omega arith))
+pub tells_the_district :
+    (ws : List ℕ) (b : Book) (v x : ℕ) → Shows ws b → 1 ≤ v → v ≤ b.laid.counts.junctions
+    → x ≡ word b.laid.words.now ((places_at b.laid.counts).first + (v - 1))
+    → Ends (verdict (refuse NoJunction (not (within 1 (word ws 2) v)) ∷ [])) (Ok x) (Unit {0})
+    (λ d. d ≡ word ws ((places_at (counts_of ws)).first + (v - 1)))
+tells_the_district ws b v x shows low high is =
+    let l : v ≤ word ws 2 = subst (λ c. v ≤ c.junctions) shows.counts high in
+    rw (is_within 1 (word ws 2) v low l) (shown_word places_at ws b (v - 1) x shows is)

@@ -1,9 +1,14 @@
 -- One row of a book among the entries: which of its words are bad, as they are found row by row. Assumes nothing.
-use Rattle.std.specs.Prelude.{ℕ, ◌-◌, ◌*◌, ◌/◌, ◌%◌, Bool, cond, not, ◌&&◌, ◌||◌, List, ◌==◌, nat_le}
+use Rattle.std.specs.Prelude.{ℕ, ◌+◌, ◌-◌, ◌*◌, ◌/◌, ◌%◌, Bool, cond, not, ◌&&◌, ◌||◌, List, ◌==◌, nat_le}
 use Rattle.measure.specs.Scale.{Scale}
 use Rattle.book.specs.declared.counts.Counts.{Counts}
 use Rattle.book.specs.declared.names.Names.{Names}
-use Rattle.book.specs.Bad.{entry_word_lem, right_name, bad_value}
+use Rattle.book.specs.Layout.{Section, section}
+use Rattle.book.specs.Bad.{entries_at, entry_word_lem, right_name, bad_value}
+
+-- the entries from number `begin` to before number `end`
+abbrev pub stretch : Counts → Names → ℕ → ℕ → Section
+stretch c names begin end = section ((entries_at c names).first + 2 * begin) (2 * (end - begin))
 
 -- in the row of junction v that begins with entry number `from`, the name in entry number e is not right, or not above the name before it
 abbrev pub bad_name_in : List ℕ → Counts → Names → ℕ → ℕ → ℕ → Bool

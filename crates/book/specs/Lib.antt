@@ -5,7 +5,6 @@ pub mod InRow
 pub mod Joining
 pub mod Layout
 pub mod Opened
-pub mod Parts
 pub mod Ready
 pub mod Told
 pub mod Words

@@ -31,8 +31,8 @@ pub record IsBook (s : Scale) (ws : List ℕ) : Type 0 where
 
 -- the opened book b holds the words ws, and their counts
 pub record Shows (ws : List ℕ) (b : Book) : Type 0 where
-  pub words : b.words.now ≡ ws
-  pub counts : b.counts ≡ counts_of ws
+  pub words : b.laid.words.now ≡ ws
+  pub counts : b.laid.counts ≡ counts_of ws
 
 -- What open answers for the words ws: a book that shows them, where they are one; otherwise the refusal of the first check that
 -- fails, and if none does, refusal 12 with the place of the first bad word.

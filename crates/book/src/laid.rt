@@ -1,7 +1,8 @@
 // The words of a book of which no count is bad, and what stands in its sections.
 ghost use Rattle.std.specs.Prelude.{◌≡◌, ◌+◌, ◌*◌, ◌<◌, ◌≤◌, length};
 ghost use Rattle.book.specs.Bad.{entry_count, entry_word_lem, offset};
-ghost use Rattle.book.specs.Layout.{word, places_at, order_at};
+ghost use Rattle.book.specs.Layout.{word, words_in, places_at, order_at};
+ghost use Rattle.book.specs.InRow.{stretch};
 ghost use Rattle.book.specs.Ready.{Ready};
 
 use super::names::Names;
@@ -46,6 +47,15 @@ impl<'a> Laid<'a> {
         ensures { result ≡ offset self.now.words.now self.now.counts names j }
     {
         self.word_at(self.counts.offsets(names), j)
+    }
+
+    // The entries of those rows from number `begin` to before number `end`.
+    pub(crate) fn entries(&self, names: Names, begin: u64, end: u64) -> &'a [u64]
+        requires { (begin ≤ end) × (end ≤ entry_count self.now.counts names) }
+        ensures { result.now ≡ words_in (stretch self.now.counts names begin end) self.now.words.now }
+    {
+        let first = self.counts.entries(names).first;
+        &self.words[(first + 2 * begin) as usize..(first + 2 * end) as usize]
     }
 
     // Word number j of the entries of those rows.

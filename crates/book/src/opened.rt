@@ -1,9 +1,13 @@
 // An opened book.
-use super::Counts;
+ghost use Rattle.book.specs.Ready.{GoodOffsets};
+ghost use Rattle.book.specs.declared.names.Names.{Names};
 
-// A book that was opened: words held for reading, and the counts that say where their six sections lie.
-#[derive(Drop)]
+use super::laid::Laid;
+
+// A book that was opened: words held for reading, with the counts that say where their six sections lie. No offset is bad, so each
+// row has its place among the entries.
+#[derive(Clone, Copy)]
 pub struct Book<'a> {
-    pub(crate) words: &'a [u64],
-    pub(crate) counts: Counts,
+    pub(crate) laid: Laid<'a>,
+    ghost offsets: { (names : Names) → GoodOffsets laid.words.now laid.counts names },
 }

@@ -1,11 +1,12 @@
 // Opening a book.
 ghost use Rattle.std.specs.Prelude.{◌≡◌, ◌+◌, ◌<◌, ◌≤◌, [], ◌++◌, length, take};
-ghost use Rattle.book.specs.Bad.{count_faults, bad_district_lem, bad_border_lem, bad_offset_lem, offsets_at, place_parts, row_parts, parts};
+ghost use Rattle.book.specs.Bad.{count_faults, bad_district_lem, bad_border_lem, bad_offset_lem, offsets_at, place_parts, row_parts};
 ghost use Rattle.book.specs.Found.{first_true, FirstIn, FirstInPart, Few, Marks};
 ghost use Rattle.book.specs.Layout.{counts_of, total, words_in, places_at, order_at};
 ghost use Rattle.book.specs.Opened.{open_checks, OpensExactlyBooks};
-ghost use Rattle.book.specs.Ready.{Ready};
 ghost use Rattle.book.specs.declared.names.Names.TheVariants.{Ranks, Hubs};
+ghost use Rattle.drawing.specs.declared.refusal.Refusal.TheVariants.{BadEntry};
+ghost use Rattle.drawing.specs.declared.refusal.Table.TheVariants.{Book as of_the_book};
 ghost use Rattle.drawing.specs.Outcomes.{verdict, Ends};
 
 use super::laid::Laid;
@@ -181,7 +182,7 @@ impl<'a> Laid<'a> {
     }
 
     // The place of the first bad word after the counts.
-    fn bad_after_counts<M: Measure>(&self) -> Option<u64>
+    fn first_bad<M: Measure>(&self) -> Option<u64>
         ensures { FirstIn (place_parts self.now.words.now self.now.counts ++ (row_parts M.Measure.scale self.now.words.now self.now.counts Ranks ++ row_parts M.Measure.scale self.now.words.now self.now.counts Hubs)) result }
     {
         self.bad_place()
@@ -190,16 +191,14 @@ impl<'a> Laid<'a> {
     }
 }
 
-// The place of the first bad word.
-fn first_bad<M: Measure>(words: &[u64], counts: Counts) -> Option<u64>
-    requires { counts.words ≤ length words.now }
-    ensures { FirstIn (parts M.Measure.scale words.now counts) result }
+// The refusal of words of which the one at this place is bad.
+fn bad_word(place: u64) -> Refusal
+    ensures { result ≡ BadEntry of_the_book place }
 {
-    bad_count(&counts).or_else(
-        ||
-            requires { Ready words.now counts }
-        { Laid { words, counts }.bad_after_counts::<M>() },
-    )
+    Refusal::BadEntry {
+        table: Table::Book,
+        place,
+    }
 }
 
 // Opens the book that the words begin with.
@@ -207,11 +206,12 @@ pub fn open<M: Measure>(words: &[u64]) -> Result<Book<'_>, Refusal>
     ensures { OpensExactlyBooks M.Measure.scale words.now result }
 {
     let counts = read_counts::<M>(words)?;
-    match first_bad::<M>(words, counts) {
-        Some(place) => Err(Refusal::BadEntry {
-            table: Table::Book,
-            place,
-        }),
-        None => Ok(Book { words, counts }),
+    if let Some(place) = bad_count(&counts) {
+        return Err(bad_word(place));
     }
+    let laid = Laid { words, counts };
+    if let Some(place) = laid.first_bad::<M>() {
+        return Err(bad_word(place));
+    }
+    Ok(Book { laid })
 }

@@ -3,5 +3,4 @@ use Rattle.book.proofs.opened.Book.border.Goals as goal
 
 pub returns : goal.returns
 returns c s ws book shows =
-    tells_the_border s ws c.args.self.now book shows c.order.result c.args.rank c.word_in.result
-    c.if-rank-self.false c.order.ensures c.word_in.ensures
+    tells_the_border ws c.args.self.now c.args.rank c.border.result shows c.if-rank-self.false c.border.ensures

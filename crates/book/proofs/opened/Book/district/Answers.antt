@@ -3,5 +3,5 @@ use Rattle.book.proofs.opened.Book.district.Goals as goal
 
 pub returns : goal.returns
 returns c s ws book shows =
-    tells_the_district s ws c.args.self.now book shows c.places.result c.args.junction c.word_in.result
-    c.if-junction-lt1.false c.if-junction-self.false c.places.ensures c.word_in.ensures
+    tells_the_district ws c.args.self.now c.args.junction c.district.result shows c.if-junction-lt1.false c.if-junction-self.false
+    c.district.ensures

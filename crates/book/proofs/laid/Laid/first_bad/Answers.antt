@@ -1,6 +1,6 @@
 use Rattle.std.proofs.Common.{rules}
 use Rattle.book.proofs.BookParts.{after_counts}
-use Rattle.book.proofs.laid.Laid.bad_after_counts.Goals as goal
+use Rattle.book.proofs.laid.Laid.first_bad.Goals as goal
 
 pub returns : goal.returns
 returns g c =
