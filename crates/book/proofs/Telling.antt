@@ -1,17 +1,14 @@
 -- What an opened book tells: the words of its sections. Assumes nothing.
-use Rattle.std.proofs.Common.{◌≡◌, ℕ, ◌+◌, ◌-◌, ◌<◌, ◌≤◌, not, ltb, List, [], ◌∷◌, get_or, Some, None, Ok, sym, ap, ◌∙◌, subst, arith}
+use Rattle.std.proofs.Common.{◌≡◌, ℕ, ◌+◌, ◌-◌, ◌<◌, ◌≤◌, not, ltb, List, [], ◌∷◌, get_or, Some, None, Ok, sym, ap, ◌∙◌, subst}
 use Rattle.std.proofs.lemmas.Bool.{cond-true, lt-ltb}
-use Rattle.measure.specs.Scale.{Scale}
 use Rattle.drawing.specs.Edits.{within}
 use Rattle.drawing.specs.Outcomes.{refuse, verdict, Ends}
 use Rattle.drawing.specs.declared.refusal.Refusal.TheVariants.{NoJunction}
-use Rattle.book.specs.Layout.{word, counts_of, Section, Spans, IsSection, places_at, order_at}
-use Rattle.book.specs.Opened.{IsBook, Shows}
+use Rattle.book.specs.Layout.{word, counts_of, Section, places_at, order_at}
+use Rattle.book.specs.Opened.{Shows}
 use Rattle.book.specs.Told.{border_order, border_of}
 use Rattle.book.specs.declared.counts.Counts.{Counts}
 use Rattle.book.specs.declared.opened.Book.{Book}
-use Rattle.book.specs.declared.span.Span.{Span}
-use Rattle.book.proofs.IsBook.{ready}
 use Rattle.drawing.proofs.Within.{is_within}
 use Rattle.book.proofs.SectionWords.{section_word}
 

@@ -1,5 +1,5 @@
 -- How a book lies in its words: eight words of counts, then six sections. Assumes nothing.
-use Rattle.std.specs.Prelude.{◌≡◌, ℕ, ◌+◌, ◌*◌, ◌≤◌, List, [], ◌∷◌, take, drop, slice_index}
+use Rattle.std.specs.Prelude.{◌≡◌, ℕ, ◌+◌, ◌*◌, List, [], ◌∷◌, take, drop, slice_index}
 use Rattle.network.specs.Labels.{Entry, entry}
 use Rattle.book.specs.declared.counts.Counts.{Counts}
 use Rattle.book.specs.declared.span.Span.{Span}
@@ -60,10 +60,6 @@ pub record Spans (x : Section) (words : ℕ) (p : Span) : Type 0 where
   pub first : p.first ≡ x.first
   pub length : p.length ≡ x.size
   pub total : p.total ≡ words
-
--- Where the counts do not need more words than they say there are, the span is the section that they give.
-abbrev pub IsSection : Counts → (Counts → Section) → Span → Type 0
-IsSection c x p = total c ≤ c.words → Spans (x c) c.words p
 
 -- the words of a section
 abbrev pub words_in : Section → List ℕ → List ℕ

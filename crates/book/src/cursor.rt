@@ -3,7 +3,7 @@ ghost use Rattle.std.specs.Prelude.{◌≡◌, drop};
 ghost use Rattle.book.specs.Joining.{front};
 
 // What is left of a row, from the entry under the cursor on.
-#[derive(Clone, Copy)]
+#[derive(Clone, Copy, PartialEq, Eq, Debug)]
 pub(crate) struct Cursor<'a> {
     pub(crate) rest: &'a [u64],
 }

@@ -78,7 +78,7 @@ impl<'a> Laid<'a> {
         requires { GoodOffsets self.now.words.now self.now.counts names }
         ensures { FirstInPart (entries_at self.now.counts names) (bad_entry_lem M.Measure.scale self.now.words.now self.now.counts names) result }
     {
-        let entries = self.counts.entries(names);
+        let entries = self.entries(names);
         (1..=self.counts.junctions)
             .find_map(|junction| self.bad_in_row::<M>(names, junction))
             .map(|j| entries.place(j))

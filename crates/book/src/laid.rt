@@ -9,7 +9,7 @@ use super::names::Names;
 use super::{Counts, Span};
 
 // Words, and the counts that they begin with, none of them bad: so the words of all sections are there.
-#[derive(Clone, Copy)]
+#[derive(Clone, Copy, PartialEq, Eq, Debug)]
 pub(crate) struct Laid<'a> {
     pub(crate) words: &'a [u64],
     pub(crate) counts: Counts,
@@ -30,7 +30,7 @@ impl<'a> Laid<'a> {
         requires { j < self.now.counts.junctions }
         ensures { result ≡ word self.now.words.now ((places_at self.now.counts).first + j) }
     {
-        self.word_at(self.counts.places(), j)
+        self.word_at(self.places(), j)
     }
 
     // The border of rank j.
@@ -38,7 +38,7 @@ impl<'a> Laid<'a> {
         requires { j < self.now.counts.borders }
         ensures { result ≡ word self.now.words.now ((order_at self.now.counts).first + j) }
     {
-        self.word_at(self.counts.order(), j)
+        self.word_at(self.order(), j)
     }
 
     // Offset number j of the rows that name their hubs so.
@@ -46,15 +46,15 @@ impl<'a> Laid<'a> {
         requires { j ≤ self.now.counts.junctions }
         ensures { result ≡ offset self.now.words.now self.now.counts names j }
     {
-        self.word_at(self.counts.offsets(names), j)
+        self.word_at(self.offsets(names), j)
     }
 
     // The entries of those rows from number `begin` to before number `end`.
-    pub(crate) fn entries(&self, names: Names, begin: u64, end: u64) -> &'a [u64]
+    pub(crate) fn stretch(&self, names: Names, begin: u64, end: u64) -> &'a [u64]
         requires { (begin ≤ end) × (end ≤ entry_count self.now.counts names) }
         ensures { result.now ≡ words_in (stretch self.now.counts names begin end) self.now.words.now }
     {
-        let first = self.counts.entries(names).first;
+        let first = self.entries(names).first;
         &self.words[(first + 2 * begin) as usize..(first + 2 * end) as usize]
     }
 
@@ -63,6 +63,6 @@ impl<'a> Laid<'a> {
         requires { j < 2 * entry_count self.now.counts names }
         ensures { result ≡ entry_word_lem self.now.words.now self.now.counts names j }
     {
-        self.word_at(self.counts.entries(names), j)
+        self.word_at(self.entries(names), j)
     }
 }

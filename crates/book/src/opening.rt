@@ -50,41 +50,39 @@ fn read_counts<M: Measure>(words: &[u64]) -> Result<Counts, Refusal>
     })
 }
 
-// How many words a book with these counts has.
-fn total_words(counts: &Counts) -> u64
-    requires { Few counts.now }
-    ensures { result ≡ total counts.now }
-{
-    10 + 3 * counts.junctions
-        + counts.borders
-        + 2 * counts.border_entries
-        + 2 * counts.district_entries
-}
+impl Counts {
+    // How many words a book with these counts has.
+    fn total_words(&self) -> u64
+        requires { Few self.now }
+        ensures { result ≡ total self.now }
+    {
+        10 + 3 * self.junctions + self.borders + 2 * self.border_entries + 2 * self.district_entries
+    }
 
-// The place of the first bad count.
-fn bad_count(counts: &Counts) -> Option<u64>
-    ensures { result ≡ first_true 0 (count_faults counts.now) }
-{
-    let junctions = counts.junctions;
-    if junctions < 1 || junctions > MOST_JUNCTIONS {
-        return Some(2);
+    // The place of the first bad count.
+    fn first_bad(&self) -> Option<u64>
+        ensures { result ≡ first_true 0 (count_faults self.now) }
+    {
+        if self.junctions < 1 || self.junctions > MOST_JUNCTIONS {
+            return Some(2);
+        }
+        if self.districts < 1 || self.districts > MOST_DISTRICTS {
+            return Some(3);
+        }
+        if self.borders > self.junctions {
+            return Some(4);
+        }
+        if self.border_entries > self.junctions * self.borders {
+            return Some(5);
+        }
+        if self.district_entries > self.junctions * self.junctions {
+            return Some(6);
+        }
+        if self.words != self.total_words() {
+            return Some(7);
+        }
+        None
     }
-    if counts.districts < 1 || counts.districts > MOST_DISTRICTS {
-        return Some(3);
-    }
-    if counts.borders > junctions {
-        return Some(4);
-    }
-    if counts.border_entries > junctions * counts.borders {
-        return Some(5);
-    }
-    if counts.district_entries > junctions * junctions {
-        return Some(6);
-    }
-    if counts.words != total_words(counts) {
-        return Some(7);
-    }
-    None
 }
 
 // Marks of which none is set.
@@ -107,7 +105,7 @@ impl<'a> Laid<'a> {
     fn bad_district(&self) -> Option<u64>
         ensures { FirstInPart (places_at self.now.counts) (bad_district_lem self.now.words.now self.now.counts) result }
     {
-        let places = self.counts.places();
+        let places = self.places();
         (0..self.counts.junctions)
             .find(|&j| self.is_bad_district(j))
             .map(|j| places.place(j))
@@ -126,8 +124,9 @@ impl<'a> Laid<'a> {
     fn bad_border(&self) -> Option<u64>
         ensures { FirstInPart (order_at self.now.counts) (bad_border_lem self.now.words.now self.now.counts) result }
     {
-        let order = self.counts.order();
+        let order = self.order();
         let mut seen = no_marks();
+        // A loop: each round marks a border too, and a `find` whose closure does that would be no plainer.
         for j in 0..self.counts.borders {
             if self.is_bad_border(&seen, j) {
                 return Some(order.place(j));
@@ -159,7 +158,7 @@ impl<'a> Laid<'a> {
         } else {
             offset < self.offset(names, j - 1)
         };
-        let entries = self.counts.entry_count(names);
+        let entries = self.entry_count(names);
         falls || offset > entries || (j == self.counts.junctions && offset != entries)
     }
 
@@ -167,7 +166,7 @@ impl<'a> Laid<'a> {
     fn bad_offset(&self, names: Names) -> Option<u64>
         ensures { FirstInPart (offsets_at self.now.counts names) (bad_offset_lem self.now.words.now self.now.counts names) result }
     {
-        let offsets = self.counts.offsets(names);
+        let offsets = self.offsets(names);
         (0..self.counts.junctions + 1)
             .find(|&j| self.is_bad_offset(names, j))
             .map(|j| offsets.place(j))
@@ -206,7 +205,7 @@ pub fn open<M: Measure>(words: &[u64]) -> Result<Book<'_>, Refusal>
     ensures { OpensExactlyBooks M.Measure.scale words.now result }
 {
     let counts = read_counts::<M>(words)?;
-    if let Some(place) = bad_count(&counts) {
+    if let Some(place) = counts.first_bad() {
         return Err(bad_word(place));
     }
     let laid = Laid { words, counts };

@@ -17,7 +17,7 @@ impl<'a> Book<'a> {
         }
         let begin = self.laid.offset(names, junction - 1);
         let end = self.laid.offset(names, junction);
-        Ok(self.laid.entries(names, begin, end))
+        Ok(self.laid.stretch(names, begin, end))
     }
 
     // The border row of a junction: its hubs are ranks in the border order.

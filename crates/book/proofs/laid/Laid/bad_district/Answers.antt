@@ -1,4 +1,4 @@
-use Rattle.std.proofs.Common.{rules, ◌≡◌, ◌+◌, refl, ap, ◌∙◌, arith}
+use Rattle.std.proofs.Common.{rules, ◌≡◌, ◌+◌, refl, ap, ◌∙◌}
 use Rattle.book.specs.Layout.{places_at}
 use Rattle.book.specs.Bad.{part, bad_district_lem}
 use Rattle.book.proofs.Parts.{first_of_part}
@@ -13,4 +13,4 @@ returns c =
     (found_in_range test _ _ _ _ c.find.ensures.ran (λ x b q k. search rules)) c.map.ensures.cases
     (λ j i k.
     let placed : i ≡ c.places-places.result.first + j = search rules in
-    placed ∙ ap (λ f. f + j) (c.places-places.ensures (omega arith)).first)
+    placed ∙ ap (λ f. f + j) c.places-places.ensures.first)

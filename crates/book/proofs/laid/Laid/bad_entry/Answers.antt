@@ -1,4 +1,4 @@
-use Rattle.std.proofs.Common.{rules, ◌≡◌, ◌+◌, ◌*◌, ◌<◌, ap, ◌∙◌, arith}
+use Rattle.std.proofs.Common.{rules, ◌≡◌, ◌+◌, ◌*◌, ◌<◌, ap, ◌∙◌}
 use Rattle.book.specs.Bad.{part, entries_at, entry_count, bad_entry_lem}
 use Rattle.book.proofs.Parts.{first_of_part}
 use Rattle.book.proofs.RowsSearched.{rows_searched}
@@ -29,4 +29,4 @@ returns g c =
     c.map.ensures.cases
     (λ j i k.
     let placed : i ≡ c.entries-entries.result.first + j = search rules in
-    placed ∙ ap (λ f. f + j) (c.entries-entries.ensures (omega arith)).first)
+    placed ∙ ap (λ f. f + j) c.entries-entries.ensures.first)

@@ -1,4 +1,4 @@
-use Rattle.std.proofs.Common.{rules, ◌≡◌, ◌+◌, ap, ◌∙◌, arith}
+use Rattle.std.proofs.Common.{rules, ◌≡◌, ◌+◌, ap, ◌∙◌}
 use Rattle.book.specs.Bad.{part, offsets_at, bad_offset_lem}
 use Rattle.book.proofs.Parts.{first_of_part}
 use Rattle.book.proofs.Searches.{found_in_range}
@@ -13,4 +13,4 @@ returns c =
     (found_in_range test _ _ _ _ c.find.ensures.ran (λ x b q k. search rules)) c.map.ensures.cases
     (λ j i k.
     let placed : i ≡ c.offsets-offsets.result.first + j = search rules in
-    placed ∙ ap (λ f. f + j) (c.offsets-offsets.ensures (omega arith)).first)
+    placed ∙ ap (λ f. f + j) c.offsets-offsets.ensures.first)
