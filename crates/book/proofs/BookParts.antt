@@ -5,8 +5,8 @@ use Rattle.measure.specs.Scale.{Scale}
 use Rattle.book.specs.declared.counts.Counts.{Counts}
 use Rattle.book.specs.declared.names.Names.{Names}
 use Rattle.book.specs.declared.names.Names.TheVariants.{Ranks, Hubs}
-use Rattle.book.specs.Layout.{section, places_at, order_at}
-use Rattle.book.specs.Bad.{Part, part, offsets_at, entries_at, bad_count_lem, count_faults, bad_district_lem, bad_border_lem, bad_offset_lem, bad_entry_lem, count_parts, place_parts, row_parts, parts, Finds}
+use Rattle.book.specs.Layout.{section}
+use Rattle.book.specs.Bad.{Part, part, offsets_at, entries_at, bad_count_lem, count_faults, bad_offset_lem, bad_entry_lem, count_parts, place_parts, row_parts, parts, Finds}
 use Rattle.book.specs.Found.{first_true, FirstIn, FirstInPart}
 use Rattle.book.specs.Ready.{GoodOffsets}
 use Rattle.book.proofs.SectionWords.{offsets_size, entries_follow}
@@ -23,20 +23,6 @@ in_counts c None is =
 in_counts c (Some i) is =
     subst (λ k. FirstIn (count_parts c) (Some k)) (zero-add i)
     (alone_some (part (section 0 8) (bad_count_lem c)) i (counts_give c (Some i) is))
-
--- the districts, and the border order after them
-module _ (ws : List ℕ) (c : Counts) where
-  abbrev districts : List Part
-  districts = part (places_at c) (bad_district_lem ws c) ∷ []
-
-  abbrev order : List Part
-  order = part (order_at c) (bad_border_lem ws c) ∷ []
-
-  pub in_districts : (i : ℕ) → FirstInPart (places_at c) (bad_district_lem ws c) (Some i) → FirstIn (place_parts ws c) (Some i)
-  in_districts i h = first_in_front 8 districts order (refl, (refl, tt)) i h
-
-  pub in_order : (r : Option ℕ) → FirstInPart (places_at c) (bad_district_lem ws c) None → FirstInPart (order_at c) (bad_border_lem ws c) r → FirstIn (place_parts ws c) r
-  in_order r none h = first_in_rest districts order r none h
 
 module _ (s : Scale) (ws : List ℕ) (c : Counts) where
   -- the rows of one kind

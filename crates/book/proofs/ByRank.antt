@@ -1,5 +1,6 @@
 -- Two border rows joined, with the hub's rank turned into the border that has it. Assumes nothing.
-use Rattle.std.proofs.Common.{◌≡◌, ℕ, ◌<◌, List, get_or, Some, None, Option, ap, ◌∙◌, arith}
+use Rattle.std.proofs.Common.{◌≡◌, ℕ, ◌<◌, ltb, List, get_or, Some, None, Option, ap, ◌∙◌, arith}
+use Rattle.std.proofs.lemmas.Bool.{cond-true, lt-ltb}
 use Rattle.measure.specs.Scale.{Scale, Laws}
 use Rattle.network.specs.Labels.{Entry, meet}
 use Rattle.network.proofs.Lists.{all_in}
@@ -8,7 +9,11 @@ use Rattle.book.specs.Layout.{word, entries}
 use Rattle.book.specs.Opened.{as_pair, as_pair_by_rank}
 use Rattle.book.specs.Told.{IsBorderRow, border_order, border_of, with_border_lem}
 use Rattle.book.proofs.Merge.{values}
-use Rattle.book.proofs.Telling.{border_of_rank}
+
+-- the border of a rank that there is
+border_of_rank : (ws : List ℕ) (rank : ℕ) → rank < word ws 4 → border_of ws rank ≡ Some (get_or (border_order ws) rank 0)
+border_of_rank ws rank l =
+    cond-true (ltb rank (word ws 4)) (Some (get_or (border_order ws) rank 0)) None (lt-ltb rank (word ws 4) l)
 
 module _ (s : Scale) (laws : Laws s) (ws p q : List ℕ) (left : IsBorderRow s ws p) (right : IsBorderRow s ws q) (x rank : ℕ) where
   -- the offer's hub is the hub of an entry of the first row

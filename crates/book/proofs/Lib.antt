@@ -16,7 +16,6 @@ pub mod Merge
 pub mod NothingBad
 pub mod Parts
 pub mod Pieces
-pub mod RowAt
 pub mod RowOfBook
 pub mod RowOffsets
 pub mod RowsInWords
@@ -24,4 +23,3 @@ pub mod RowsOfEntries
 pub mod RowsSearched
 pub mod Searches
 pub mod SectionWords
-pub mod Telling

@@ -1,5 +1,5 @@
 -- Where the first bad word of a list of parts stands. Assumes nothing.
-use Rattle.std.proofs.Common.{◌≡◌, ℕ, ◌+◌, ◌-◌, ◌<◌, ◌≤◌, Bool, true, false, ◌&&◌, ◌||◌, ltb, leb, List, [], ◌∷◌, ◌++◌, Some, None, Option, sym, refl, ◌∙◌, subst, ⊎_elim, arith}
+use Rattle.std.proofs.Common.{◌≡◌, ℕ, ◌+◌, ◌-◌, ◌<◌, ◌≤◌, Bool, true, false, ◌&&◌, ◌||◌, ltb, leb, List, [], ◌∷◌, ◌++◌, Some, None, Option, sym, refl, ap, ◌∙◌, subst, ⊎_elim, arith}
 use Rattle.std.specs.List.{AllByRecursion}
 use Rattle.std.specs.Option.{MatchOption, IsSomeAnd}
 use Rattle.std.proofs.lemmas.Bool.{both_ways, cases_Bool, cases_lt, or_parts, or_from, or_left, or_right, or_cases, and_parts, and_left, and_right, lt-leb, le-ltb, le-leb, lt-ltb, ltb-true, false≢true}
@@ -129,11 +129,11 @@ first_of_both f ps qs chain (Some i) r h same k = subst (FirstIn (ps ++ qs)) (sy
 
 -- the first bad word of a part of n words, found as its word number j and turned into its place
 pub first_of_part :
-    (p : Part) (n : ℕ) → p.lies.size ≡ n → (a r : Option ℕ) {P : ℕ → ℕ → Type 0} → Finds p.bad 0 n a
-    → MatchOption a (r ≡ None) (λ j. IsSomeAnd r (P j)) → ((j i : ℕ) → P j i → i ≡ p.lies.first + j) → FirstIn (p ∷ []) r
-first_of_part p n size None r h none place =
+    (p : Part) (first n : ℕ) → first ≡ p.lies.first → p.lies.size ≡ n → (a r : Option ℕ) {P : ℕ → ℕ → Type 0} → Finds p.bad 0 n a
+    → MatchOption a (r ≡ None) (λ j. IsSomeAnd r (P j)) → ((j i : ℕ) → P j i → i ≡ first + j) → FirstIn (p ∷ []) r
+first_of_part p first n begins size None r h none place =
     subst (FirstIn (p ∷ [])) (sym none) (nothing_is_bad (p ∷ []) (part_is_good p n size h, tt))
-first_of_part p n size (Some j) None h there place = absurd there
-first_of_part p n size (Some j) (Some i) h there place =
-    subst (λ k. FirstIn (p ∷ []) (Some k)) (sym (place j i there))
+first_of_part p first n begins size (Some j) None h there place = absurd there
+first_of_part p first n begins size (Some j) (Some i) h there place =
+    subst (λ k. FirstIn (p ∷ []) (Some k)) (ap (λ f. f + j) (sym begins) ∙ sym (place j i there))
     (alone_some p j (subst (λ k. Finds p.bad 0 k (Some j)) (sym size) h))

@@ -1,5 +1,5 @@
 -- A search that goes on where it has found nothing so far. Assumes nothing.
-use Rattle.std.proofs.Common.{◌≡◌, ℕ, ◌+◌, ◌*◌, ◌<◌, ◌≤◌, Bool, true, false, Some, None, Option, sym, subst, ◌∙◌, ⊎_elim, arith, Bor}
+use Rattle.std.proofs.Common.{◌≡◌, ℕ, ◌+◌, ◌<◌, ◌≤◌, Bool, true, false, Some, None, Option, sym, subst, ◌∙◌, ⊎_elim, arith, Bor}
 use Rattle.std.specs.Fn.{CalledAt}
 use Rattle.std.specs.Iterator.{FindsItem}
 use Rattle.std.specs.Option.{MatchOption}
@@ -14,11 +14,6 @@ use Rattle.book.specs.Bad.{Finds}
 pub one_word_more : (test : ℕ → Bool) (low i : ℕ) → Finds test low i None → test i ≡ false → Finds test low (i + 1) None
 one_word_more test low i before here j l h =
     ⊎_elim (λ k. before j l k) (λ k. let same : j ≡ i = omega arith in rw same here) (cases_lt j i)
-
--- what fails from low up to 2 e, at 2 e and at 2 e + 1 fails up to 2 (e + 1)
-pub one_entry_more : (test : ℕ → Bool) (low e : ℕ) → Finds test low (2 * e) None → test (2 * e) ≡ false → test (2 * e + 1) ≡ false → Finds test low (2 * (e + 1)) None
-one_entry_more test low e before name value j l h =
-    one_word_more test low (2 * e + 1) (one_word_more test low (2 * e) before name) value j l (omega arith)
 
 -- what fails from low up to mid and from mid up to high fails from low up to high
 pub none_further : (test : ℕ → Bool) (low mid high : ℕ) → Finds test low mid None → Finds test mid high None → Finds test low high None

@@ -1,6 +1,0 @@
-use Rattle.book.proofs.Telling.{tells_the_border}
-use Rattle.book.proofs.opened.Book.border.Goals as goal
-
-pub returns : goal.returns
-returns c s ws book shows =
-    tells_the_border ws c.args.self.now c.args.rank c.border.result shows c.if-rank-self.false c.border.ensures
