@@ -6,7 +6,7 @@ use Rattle.book.specs.declared.counts.Counts.{Counts}
 use Rattle.book.specs.declared.names.Names.{Names}
 use Rattle.book.specs.declared.names.Names.TheVariants.{Ranks, Hubs}
 use Rattle.book.specs.Layout.{section}
-use Rattle.book.specs.Bad.{Part, part, offsets_at, entries_at, bad_count_lem, count_faults, bad_offset_lem, bad_entry_lem, count_parts, place_parts, row_parts, parts, Finds}
+use Rattle.book.specs.Bad.{Part, part, offsets_at, entries_at, bad_count, count_faults, bad_offset, bad_entry, count_parts, place_parts, row_parts, parts, Finds}
 use Rattle.book.specs.Found.{first_true, FirstIn, FirstInPart}
 use Rattle.book.specs.Ready.{GoodOffsets}
 use Rattle.book.proofs.SectionWords.{offsets_size, entries_follow}
@@ -14,30 +14,30 @@ use Rattle.book.proofs.Parts.{nothing_is_bad, part_is_good, parts_are_good, alon
 use Rattle.book.proofs.FirstTrue.{first_true_found}
 
 -- the counts
-counts_give : (c : Counts) (r : Option ℕ) → r ≡ first_true 0 (count_faults c) → Finds (bad_count_lem c) 0 8 r
+counts_give : (c : Counts) (r : Option ℕ) → r ≡ first_true 0 (count_faults c) → Finds (bad_count c) 0 8 r
 counts_give c r is = first_true_found (count_faults c) r is
 
 pub in_counts : (c : Counts) (r : Option ℕ) → r ≡ first_true 0 (count_faults c) → FirstIn (count_parts c) r
 in_counts c None is =
-    nothing_is_bad (count_parts c) (part_is_good (part (section 0 8) (bad_count_lem c)) 8 refl (counts_give c None is), tt)
+    nothing_is_bad (count_parts c) (part_is_good (part (section 0 8) (bad_count c)) 8 refl (counts_give c None is), tt)
 in_counts c (Some i) is =
     subst (λ k. FirstIn (count_parts c) (Some k)) (zero-add i)
-    (alone_some (part (section 0 8) (bad_count_lem c)) i (counts_give c (Some i) is))
+    (alone_some (part (section 0 8) (bad_count c)) i (counts_give c (Some i) is))
 
 module _ (s : Scale) (ws : List ℕ) (c : Counts) where
   -- the rows of one kind
-  pub offsets_good : (names : Names) → FirstInPart (offsets_at c names) (bad_offset_lem ws c names) None → GoodOffsets ws c names
+  pub offsets_good : (names : Names) → FirstInPart (offsets_at c names) (bad_offset ws c names) None → GoodOffsets ws c names
   offsets_good names h j l =
       let size = offsets_size c names in
-      (parts_are_good (part (offsets_at c names) (bad_offset_lem ws c names) ∷ []) h).0 j (omega arith)
+      (parts_are_good (part (offsets_at c names) (bad_offset ws c names) ∷ []) h).0 j (omega arith)
 
   pub in_rows :
-      (names : Names) (a r : Option ℕ) {P : Type 0} → FirstInPart (offsets_at c names) (bad_offset_lem ws c names) a
-      → MatchOption a P (λ i. r ≡ Some i) → (P → FirstInPart (entries_at c names) (bad_entry_lem s ws c names) r)
+      (names : Names) (a r : Option ℕ) {P : Type 0} → FirstInPart (offsets_at c names) (bad_offset ws c names) a
+      → MatchOption a P (λ i. r ≡ Some i) → (P → FirstInPart (entries_at c names) (bad_entry s ws c names) r)
       → FirstIn (row_parts s ws c names) r
   in_rows names a r h then entries =
-      first_of_both (offsets_at c names).first (part (offsets_at c names) (bad_offset_lem ws c names) ∷ [])
-      (part (entries_at c names) (bad_entry_lem s ws c names) ∷ []) (refl, (entries_follow c names, tt)) a r h then entries
+      first_of_both (offsets_at c names).first (part (offsets_at c names) (bad_offset ws c names) ∷ [])
+      (part (entries_at c names) (bad_entry s ws c names) ∷ []) (refl, (entries_follow c names, tt)) a r h then entries
 
   abbrev ranks : List Part
   ranks = row_parts s ws c Ranks

@@ -4,7 +4,7 @@ use Rattle.std.proofs.lemmas.List.{get_or-replicate, length-replicate, length-se
 use Rattle.std.proofs.lemmas.Bool.{cases_eq, eq-eqb, ne_eqb, or_parts, cases_Bool}
 use Rattle.book.specs.declared.counts.Counts.{Counts}
 use Rattle.book.specs.Layout.{word, words_in, order_at, after}
-use Rattle.book.specs.Bad.{among, bad_border_lem}
+use Rattle.book.specs.Bad.{among, bad_border}
 use Rattle.book.specs.Found.{Marks}
 use Rattle.book.specs.Ready.{Ready}
 use Rattle.drawing.proofs.Within.{between}
@@ -32,7 +32,7 @@ marked_more seen bs x small m =
     }
 
 -- the marks after the border of rank j, which is a good one
-pub border_marked : (ws : List ℕ) (c : Counts) → Ready ws c → (seen : List Bool) (j x : ℕ) → j < c.borders → x ≡ word ws ((order_at c).first + j) → bad_border_lem ws c j ≡ false → Marks seen (take j (words_in (order_at c) ws)) → Marks (set seen x true) (take (j + 1) (words_in (order_at c) ws))
+pub border_marked : (ws : List ℕ) (c : Counts) → Ready ws c → (seen : List Bool) (j x : ℕ) → j < c.borders → x ≡ word ws ((order_at c).first + j) → bad_border ws c j ≡ false → Marks seen (take j (words_in (order_at c) ws)) → Marks (set seen x true) (take (j + 1) (words_in (order_at c) ws))
 border_marked ws c ready seen j x inside is good m =
     let order = words_in (order_at c) ws in
     let fits : after (order_at c) ≤ length ws = omega (arith, ready.words_are_counted, ready.words_are_there) in

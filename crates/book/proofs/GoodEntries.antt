@@ -8,7 +8,7 @@ use Rattle.network.specs.Labels.{Entry, entry, Ascends}
 use Rattle.network.specs.Theorems.{Proper}
 use Rattle.book.specs.Words.{all_entries, entry_words}
 use Rattle.book.specs.Ready.{Ready, GoodOffsets}
-use Rattle.book.specs.Bad.{offset, entries_at, entry_word_lem, begins_a_row, row_of, right_name, bad_value, bad_name, bad_entry_lem}
+use Rattle.book.specs.Bad.{offset, entries_at, entry_word, begins_a_row, row_of, right_name, bad_value, bad_name, bad_entry}
 use Rattle.book.specs.declared.counts.Counts.{Counts}
 use Rattle.book.specs.declared.names.Names.{Names}
 use Rattle.book.proofs.SectionWords.{word_of_section, offsets_size, entries_size}
@@ -84,7 +84,7 @@ module _ (s : Scale) (ws : List ℕ) (c : Counts) (names : Names) (rows : List (
 
   -- the name and the value of an entry, by its place in its row
   name_is : (e row place : ℕ) → row < length rows → place < length (get_or rows row []) → e ≡ before rows row + place
-      → e < length (all_entries rows) → entry_word_lem ws c names (2 * e) ≡ (get_or (get_or rows row []) place no_entry).hub
+      → e < length (all_entries rows) → entry_word ws c names (2 * e) ≡ (get_or (get_or rows row []) place no_entry).hub
   name_is e row place l k is m =
       word_of_section (entries_at c names) ws (entry_words (all_entries rows)) (2 * e) lie.entries_lie
       (omega (arith, entries_size c names, lie.as_many_entries))
@@ -98,14 +98,14 @@ module _ (s : Scale) (ws : List ℕ) (c : Counts) (names : Names) (rows : List (
       let row : List Entry = get_or rows at.row [] in
       let hub : ℕ → ℕ = λ i. (get_or row i no_entry).hub in
       let fine = good at.row at.row_is_there in
-      let name : entry_word_lem ws c names (2 * e) ≡ hub at.place = name_is e at.row at.place at.row_is_there at.place_is_there at.is m in
+      let name : entry_word ws c names (2 * e) ≡ hub at.place = name_is e at.row at.place at.row_is_there at.place_is_there at.is m in
       let is_right : right_name ws c names (suc at.row) (hub at.place) ≡ true =
       All-get_or (λ x. right_name ws c names (suc at.row) x.hub ≡ true) row at.place no_entry at.place_is_there fine.right in
-      let right_here : right_name ws c names (row_of ws c names e) (entry_word_lem ws c names (2 * e)) ≡ true =
-      ap (λ v. right_name ws c names v (entry_word_lem ws c names (2 * e))) (row_of_is e at)
+      let right_here : right_name ws c names (row_of ws c names e) (entry_word ws c names (2 * e)) ≡ true =
+      ap (λ v. right_name ws c names v (entry_word ws c names (2 * e))) (row_of_is e at)
       ∙ ap (right_name ws c names (suc at.row)) name ∙ is_right in
       let starts : Bool = begins_a_row ws c names e in
-      let falls : Bool = leb (entry_word_lem ws c names (2 * e)) (entry_word_lem ws c names (2 * (e - 1))) in
+      let falls : Bool = leb (entry_word ws c names (2 * e)) (entry_word ws c names (2 * (e - 1))) in
       let at_the_start : at.place ≡ 0 → (not starts && falls) ≡ false = λ z.
       and_left (not starts) falls (not_from_true starts (begins_the_row e at z)) in
       let further_on : (at.place ≡ 0 → ⊥) → (not starts && falls) ≡ false = λ nz.
@@ -113,19 +113,19 @@ module _ (s : Scale) (ws : List ℕ) (c : Counts) (names : Names) (rows : List (
       let again : suc p ≡ at.place = omega arith in
       let above : hub p < hub (suc p) = next_hub_is_above row fine.ascends p (omega (arith, at.place_is_there)) in
       let above_here : hub p < hub at.place = subst (λ n. hub p < hub n) again above in
-      let last : entry_word_lem ws c names (2 * (e - 1)) ≡ hub p =
+      let last : entry_word ws c names (2 * (e - 1)) ≡ hub p =
       name_is (e - 1) at.row p at.row_is_there (omega (arith, at.place_is_there)) (omega (arith, at.is)) (omega arith) in
       and_right (not starts) falls
-      (lt-leb (entry_word_lem ws c names (2 * e)) (entry_word_lem ws c names (2 * (e - 1))) (omega arith)) in
-      or_from (not (right_name ws c names (row_of ws c names e) (entry_word_lem ws c names (2 * e)))) (not starts && falls)
-      (not_from_true (right_name ws c names (row_of ws c names e) (entry_word_lem ws c names (2 * e))) right_here)
+      (lt-leb (entry_word ws c names (2 * e)) (entry_word ws c names (2 * (e - 1))) (omega arith)) in
+      or_from (not (right_name ws c names (row_of ws c names e) (entry_word ws c names (2 * e)))) (not starts && falls)
+      (not_from_true (right_name ws c names (row_of ws c names e) (entry_word ws c names (2 * e))) right_here)
       (⊎_elim at_the_start further_on (cases_eq at.place 0))
 
-  no_value_is_bad : (e j : ℕ) → j ≡ 2 * e + 1 → e < length (all_entries rows) → bad_value s (entry_word_lem ws c names j) ≡ false
+  no_value_is_bad : (e j : ℕ) → j ≡ 2 * e + 1 → e < length (all_entries rows) → bad_value s (entry_word ws c names j) ≡ false
   no_value_is_bad e j t m =
       let at = locate rows e m in
       let row : List Entry = get_or rows at.row [] in
-      let is : entry_word_lem ws c names j ≡ (get_or row at.place no_entry).worth =
+      let is : entry_word ws c names j ≡ (get_or row at.place no_entry).worth =
       word_of_section (entries_at c names) ws (entry_words (all_entries rows)) j lie.entries_lie
       (omega (arith, entries_size c names, lie.as_many_entries))
       ∙ value_word (all_entries rows) e j t m
@@ -135,9 +135,9 @@ module _ (s : Scale) (ws : List ℕ) (c : Counts) (names : Names) (rows : List (
       ∙ proper_is_not_bad s (get_or row at.place no_entry).worth
       (All-get_or (λ x. Proper s x.worth) row at.place no_entry at.place_is_there (good at.row at.row_is_there).proper)
 
-  pub no_entry_is_bad : (j : ℕ) → j < (entries_at c names).size → bad_entry_lem s ws c names j ≡ false
+  pub no_entry_is_bad : (j : ℕ) → j < (entries_at c names).size → bad_entry s ws c names j ≡ false
   no_entry_is_bad j l =
       let below : j < 2 * length (all_entries rows) = omega (arith, entries_size c names, lie.as_many_entries) in
-      cond_both (eqb (j % 2) 0) (bad_name ws c names (j / 2)) (bad_value s (entry_word_lem ws c names j)) (λ b. b ≡ false)
+      cond_both (eqb (j % 2) 0) (bad_name ws c names (j / 2)) (bad_value s (entry_word ws c names j)) (λ b. b ≡ false)
       (λ t. no_name_is_bad (j / 2) (omega arith))
       (λ f. let odd = eqb-false (j % 2) 0 f in no_value_is_bad (j / 2) j (omega arith) (omega arith))

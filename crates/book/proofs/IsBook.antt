@@ -7,7 +7,7 @@ use Rattle.measure.specs.Scale.{Scale}
 use Rattle.drawing.specs.Outcomes.{Check, verdict}
 use Rattle.drawing.specs.declared.refusal.Refusal.{Refusal}
 use Rattle.book.specs.Layout.{word, counts_of, total}
-use Rattle.book.specs.Bad.{parts, bad_entry_lem, entry_count}
+use Rattle.book.specs.Bad.{parts, bad_entry, entry_count}
 use Rattle.book.specs.Opened.{IsBook, open_checks}
 use Rattle.book.specs.Ready.{Ready, GoodOffsets}
 use Rattle.book.specs.declared.names.Names.{Names}
@@ -53,6 +53,6 @@ module _ (s : Scale) (ws : List ℕ) (book : IsBook s ws) where
 
   -- no word of the entries is bad
   pub good_entries :
-      (names : Names) (j : ℕ) → j < 2 * entry_count (counts_of ws) names → bad_entry_lem s ws (counts_of ws) names j ≡ false
+      (names : Names) (j : ℕ) → j < 2 * entry_count (counts_of ws) names → bad_entry s ws (counts_of ws) names j ≡ false
   good_entries Ranks j l = all_good.1.1.1.1.0 j l
   good_entries Hubs j l = all_good.1.1.1.1.1.1.0 j l

@@ -7,13 +7,13 @@ use Rattle.drawing.specs.Edits.{within}
 use Rattle.network.specs.Lists.{In, Distinct}
 use Rattle.network.proofs.Lists.{getD_in}
 use Rattle.book.specs.Layout.{word, places_at, order_at, words_in, total}
-use Rattle.book.specs.Bad.{among, count_faults, bad_count_lem, bad_district_lem, bad_border_lem}
+use Rattle.book.specs.Bad.{among, count_faults, bad_count, bad_district, bad_border}
 use Rattle.book.specs.Ready.{Ready}
 use Rattle.book.specs.declared.counts.Counts.{Counts}
 use Rattle.drawing.proofs.Within.{is_within}
 use Rattle.book.proofs.SectionWords.{word_of_section}
 
-pub no_count_is_bad : (ws : List ℕ) (c : Counts) → Ready ws c → 1 ≤ c.districts → (i : ℕ) → i < 8 → bad_count_lem c i ≡ false
+pub no_count_is_bad : (ws : List ℕ) (c : Counts) → Ready ws c → 1 ≤ c.districts → (i : ℕ) → i < 8 → bad_count c i ≡ false
 no_count_is_bad ws c r some i l =
     All-get_or (λ b. b ≡ false) (count_faults c) i false l (
       refl,
@@ -52,14 +52,14 @@ none_stood_before (x ∷ xs) (suc j) (other, d) l =
 
 module _ (ws : List ℕ) (c : Counts) where
   pub no_district_is_bad : (places : List ℕ) → words_in (places_at c) ws ≡ places → length places ≡ c.junctions
-      → AllByRecursion (λ d. d < c.districts) places → (j : ℕ) → j < c.junctions → bad_district_lem ws c j ≡ false
+      → AllByRecursion (λ d. d < c.districts) places → (j : ℕ) → j < c.junctions → bad_district ws c j ≡ false
   no_district_is_bad places lie long below j l =
       let is : word ws ((places_at c).first + j) ≡ get_or places j 0 = word_of_section (places_at c) ws places j lie l in
       let small : get_or places j 0 < c.districts = All-get_or (λ d. d < c.districts) places j 0 (omega arith) below in
       lt-leb c.districts (word ws ((places_at c).first + j)) (omega arith)
 
   pub no_border_is_bad : (order : List ℕ) → words_in (order_at c) ws ≡ order → length order ≡ c.borders
-      → AllByRecursion (λ v. (1 ≤ v) × (v ≤ c.junctions)) order → Distinct order → (j : ℕ) → j < c.borders → bad_border_lem ws c j ≡ false
+      → AllByRecursion (λ v. (1 ≤ v) × (v ≤ c.junctions)) order → Distinct order → (j : ℕ) → j < c.borders → bad_border ws c j ≡ false
   no_border_is_bad order lie long junctions distinct j l =
       let x : ℕ = word ws ((order_at c).first + j) in
       let is : x ≡ get_or order j 0 = word_of_section (order_at c) ws order j lie l in

@@ -9,7 +9,7 @@ use Rattle.network.specs.Labels.{Entry, entry, Ascends}
 use Rattle.network.specs.Theorems.{Proper}
 use Rattle.book.specs.Layout.{word, counts_of, entries}
 use Rattle.book.specs.Words.{entry_words}
-use Rattle.book.specs.Bad.{offset, entries_at, entry_count, entry_word_lem, right_name, begins_a_row, row_of, bad_name, bad_value}
+use Rattle.book.specs.Bad.{offset, entries_at, entry_count, entry_word, right_name, begins_a_row, row_of, bad_name, bad_value}
 use Rattle.book.specs.Opened.{IsBook, IsRow, row_words}
 use Rattle.book.specs.Told.{RowsAreRows}
 use Rattle.book.specs.declared.counts.Counts.{Counts}
@@ -114,12 +114,12 @@ module _ (s : Scale) (ws : List ℕ) (book : IsBook s ws) (names : Names) (v : �
       let few = offset_within ws c names offsets v high in
       omega arith
 
-  name_place : (k : ℕ) → word ws (place + 2 * k) ≡ entry_word_lem ws c names (2 * (begin + k))
+  name_place : (k : ℕ) → word ws (place + 2 * k) ≡ entry_word ws c names (2 * (begin + k))
   name_place k =
       let e : place + 2 * k ≡ (entries_at c names).first + 2 * (begin + k) = omega arith in
       ap (word ws) e
 
-  value_place : (k : ℕ) → word ws (place + (2 * k + 1)) ≡ entry_word_lem ws c names (2 * (begin + k) + 1)
+  value_place : (k : ℕ) → word ws (place + (2 * k + 1)) ≡ entry_word ws c names (2 * (begin + k) + 1)
   value_place k =
       let e : place + (2 * k + 1) ≡ (entries_at c names).first + (2 * (begin + k) + 1) = omega arith in
       ap (word ws) e
@@ -138,7 +138,7 @@ module _ (s : Scale) (ws : List ℕ) (book : IsBook s ws) (names : Names) (v : �
         let few = is_counted in
         sym (at_a_name s ws c names number) ∙ good_entries s ws book names (2 * number) (omega arith)
 
-    value_is_good : bad_value s (entry_word_lem ws c names (2 * number + 1)) ≡ false
+    value_is_good : bad_value s (entry_word ws c names (2 * number + 1)) ≡ false
     value_is_good =
         let few = is_counted in
         sym (at_a_value s ws c names number) ∙ good_entries s ws book names (2 * number + 1) (omega arith)
@@ -149,16 +149,16 @@ module _ (s : Scale) (ws : List ℕ) (book : IsBook s ws) (names : Names) (v : �
 
     name_is_right : right_name ws c names v (word ws (place + 2 * k)) ≡ true
     name_is_right =
-        let h = entry_word_lem ws c names (2 * number) in
+        let h = entry_word ws c names (2 * number) in
         let right = right_name ws c names (row_of ws c names number) h in
-        let repeats = not (begins_a_row ws c names number) && leb h (entry_word_lem ws c names (2 * (number - 1))) in
+        let repeats = not (begins_a_row ws c names number) && leb h (entry_word ws c names (2 * (number - 1))) in
         let t : right ≡ true = not-false right (or_parts (not right) repeats name_is_good).0 in
         subst (λ x. right_name ws c names v x ≡ true) (sym (name_place k))
         (subst (λ u. right_name ws c names u h ≡ true) is_in_the_row t)
 
     value_is_proper : Proper s (word ws (place + (2 * k + 1)))
     value_is_proper =
-        let x = entry_word_lem ws c names (2 * number + 1) in
+        let x = entry_word ws c names (2 * number + 1) in
         let t = or_parts (not (s.value x)) (eqb x s.none) value_is_good in
         subst (Proper s) (sym (value_place k)) (not-false (s.value x) t.0, eqb-false x s.none t.1)
 
@@ -166,8 +166,8 @@ module _ (s : Scale) (ws : List ℕ) (book : IsBook s ws) (names : Names) (v : �
   names_ascend : (k : ℕ) → suc k < end - begin → word ws (place + 2 * k) < word ws (place + 2 * suc k)
   names_ascend k below =
       let e = begin + suc k in
-      let h = entry_word_lem ws c names (2 * e) in
-      let before = entry_word_lem ws c names (2 * (e - 1)) in
+      let h = entry_word ws c names (2 * e) in
+      let before = entry_word ws c names (2 * (e - 1)) in
       let right = right_name ws c names (row_of ws c names e) h in
       let begins = begins_a_row ws c names e in
       let repeats : (not begins && leb h before) ≡ false = (or_parts (not right) (not begins && leb h before) (name_is_good (suc k) below)).1 in
@@ -176,7 +176,7 @@ module _ (s : Scale) (ws : List ℕ) (book : IsBook s ws) (names : Names) (v : �
       ∙ ne_eqb e begin (λ z. omega arith) in
       let greater : before < h = leb-false h before (subst (λ b. (not b && leb h before) ≡ false) inner repeats) in
       let same : begin + k ≡ e - 1 = omega arith in
-      subst (λ x. x < word ws (place + 2 * suc k)) (sym (name_place k ∙ ap (λ m. entry_word_lem ws c names (2 * m)) same))
+      subst (λ x. x < word ws (place + 2 * suc k)) (sym (name_place k ∙ ap (λ m. entry_word ws c names (2 * m)) same))
       (subst (λ x. before < x) (sym (name_place (suc k))) greater)
 
   -- the row of a junction of a book is a row

@@ -4,7 +4,7 @@ use Rattle.std.proofs.lemmas.Bool.{cases_Bool, cond_both, or_from, and_left, and
 use Rattle.network.specs.Labels.{Entry}
 use Rattle.book.specs.Layout.{words_in}
 use Rattle.book.specs.Words.{offsets_from, all_entries, entry_words}
-use Rattle.book.specs.Bad.{offsets_at, entries_at, entry_count, offset, bad_offset_lem}
+use Rattle.book.specs.Bad.{offsets_at, entries_at, entry_count, offset, bad_offset}
 use Rattle.book.specs.declared.counts.Counts.{Counts}
 use Rattle.book.specs.declared.names.Names.{Names}
 use Rattle.book.proofs.LaidEndToEnd.{middle, length_entry_words, entry_words_append}
@@ -37,7 +37,7 @@ module _ (ws : List ℕ) (c : Counts) (names : Names) (rows : List (List Entry))
       word_of_section (offsets_at c names) ws (offsets_from 0 rows) j lie.offsets_lie (omega (arith, offsets_size c names, lie.as_many_rows))
       ∙ offset_is rows j l
 
-  pub no_offset_is_bad : (j : ℕ) → j < (offsets_at c names).size → bad_offset_lem ws c names j ≡ false
+  pub no_offset_is_bad : (j : ℕ) → j < (offsets_at c names).size → bad_offset ws c names j ≡ false
   no_offset_is_bad j l =
       let h : j ≤ length rows = omega (arith, offsets_size c names, lie.as_many_rows) in
       let here : offset ws c names j ≡ before rows j = offset_here j h in

@@ -9,7 +9,7 @@ use Rattle.std.specs.declared.ops.RangeInclusive.{RangeInclusive}
 use Rattle.std.proofs.iter.runs.Sources.{nat_range_inclusive_steps}
 use denote.Param.Members.{Mut}
 use Rattle.measure.specs.Scale.{Scale}
-use Rattle.book.specs.Bad.{offset, entry_count, bad_entry_lem, Finds}
+use Rattle.book.specs.Bad.{offset, entry_count, bad_entry, Finds}
 use Rattle.book.specs.Ready.{GoodOffsets}
 use Rattle.book.specs.declared.counts.Counts.{Counts}
 use Rattle.book.specs.declared.names.Names.{Names}
@@ -20,12 +20,12 @@ use Rattle.book.proofs.RowsOfEntries.{offsets_ascend, offsets_begin_at_zero, off
 pub rows_searched :
     (s : Scale) (ws : List ℕ) (c : Counts) (names : Names) {F : Type 0} {g : Mut F (ℕ × Unit {0}) (Option ℕ)} (f : F) (from : RangeInclusive ℕ) (r : Option ℕ)
     → GoodOffsets ws c names → range_inclusive_start from ≡ 1 → range_inclusive_end from ≡ c.junctions → range_inclusive_exhausted from ≡ false
-    → ((v : ℕ) (y : Option ℕ) (q : F) → 1 ≤ v → v ≤ c.junctions → Called g f (v, tt) y q → Finds (bad_entry_lem s ws c names) (2 * offset ws c names (v - 1)) (2 * offset ws c names v) y)
+    → ((v : ℕ) (y : Option ℕ) (q : F) → 1 ≤ v → v ≤ c.junctions → Called g f (v, tt) y q → Finds (bad_entry s ws c names) (2 * offset ws c names (v - 1)) (2 * offset ws c names v) y)
     → ((a : ℕ × Unit {0}) (y : Option ℕ) (q : F) → Called g f a y q → q ≡ f)
     → SomeRun nat_range_inclusive_steps from (λ p. MatchOption r (IsTrue p.whole × AllItemsGive p g f None) (λ y. (i : ℕ) × (i < p.len) × (p.len ≡ i + 1) × IsFirstToGive p g f (Some y) None i))
-    → Finds (bad_entry_lem s ws c names) 0 (2 * entry_count c names) r
+    → Finds (bad_entry s ws c names) 0 (2 * entry_count c names) r
 rows_searched s ws c names f from r good begins ends fresh calls keeps run =
-    let test = bad_entry_lem s ws c names in
+    let test = bad_entry s ws c names in
     let up = goes_up_to run.0 1 c.junctions (subst (λ w. range_inclusive_start w ≡ 1) (sym run.1) begins) (subst (λ w. range_inclusive_end w ≡ c.junctions) (sym run.1) ends) (subst (λ w. range_inclusive_exhausted w ≡ false) (sym run.1) fresh) in
     let found : Finds test (2 * offset ws c names 0) (2 * offset ws c names c.junctions) r =
     found_in_rows run.0 f c.junctions test (λ v. 2 * offset ws c names v) up calls r

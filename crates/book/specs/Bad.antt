@@ -26,18 +26,18 @@ count_faults c =
     ∷ not (c.words == total c)
     ∷ []
 
-abbrev pub bad_count_lem : Counts → ℕ → Bool
-bad_count_lem c i = slice_index_or (count_faults c) i false
+abbrev pub bad_count : Counts → ℕ → Bool
+bad_count c i = slice_index_or (count_faults c) i false
 
 -- In the sections, j counts from the section's first word.
 
 -- a district is below the number of districts
-abbrev pub bad_district_lem : List ℕ → Counts → ℕ → Bool
-bad_district_lem ws c j = nat_le c.districts (word ws ((places_at c).first + j))
+abbrev pub bad_district : List ℕ → Counts → ℕ → Bool
+bad_district ws c j = nat_le c.districts (word ws ((places_at c).first + j))
 
 -- a border is a junction, and did not stand before
-abbrev pub bad_border_lem : List ℕ → Counts → ℕ → Bool
-bad_border_lem ws c j =
+abbrev pub bad_border : List ℕ → Counts → ℕ → Bool
+bad_border ws c j =
     not (within 1 c.junctions (word ws ((order_at c).first + j)))
     || among (word ws ((order_at c).first + j)) (take j (words_in (order_at c) ws))
 
@@ -59,12 +59,12 @@ entry_count c Hubs = c.district_entries
 abbrev pub offset : List ℕ → Counts → Names → ℕ → ℕ
 offset ws c names j = word ws ((offsets_at c names).first + j)
 
-abbrev pub entry_word_lem : List ℕ → Counts → Names → ℕ → ℕ
-entry_word_lem ws c names j = word ws ((entries_at c names).first + j)
+abbrev pub entry_word : List ℕ → Counts → Names → ℕ → ℕ
+entry_word ws c names j = word ws ((entries_at c names).first + j)
 
 -- offsets begin at 0, never fall, never pass the number of entries, and end there
-abbrev pub bad_offset_lem : List ℕ → Counts → Names → ℕ → Bool
-bad_offset_lem ws c names j =
+abbrev pub bad_offset : List ℕ → Counts → Names → ℕ → Bool
+bad_offset ws c names j =
     (cond (j == 0) (not (offset ws c names j == 0)) (nat_lt (offset ws c names j) (offset ws c names (j - 1)))
     || nat_lt (entry_count c names) (offset ws c names j))
     || (j == c.junctions && not (offset ws c names j == entry_count c names))
@@ -91,12 +91,12 @@ bad_value s x = not (s.value x) || x == s.none
 -- the name in entry number e is right, and above the name before it in the row
 abbrev pub bad_name : List ℕ → Counts → Names → ℕ → Bool
 bad_name ws c names e =
-    not (right_name ws c names (row_of ws c names e) (entry_word_lem ws c names (2 * e)))
-    || (not (begins_a_row ws c names e) && nat_le (entry_word_lem ws c names (2 * e)) (entry_word_lem ws c names (2 * (e - 1))))
+    not (right_name ws c names (row_of ws c names e) (entry_word ws c names (2 * e)))
+    || (not (begins_a_row ws c names e) && nat_le (entry_word ws c names (2 * e)) (entry_word ws c names (2 * (e - 1))))
 
 -- entry number e has its name in word 2 e and its value in word 2 e + 1
-abbrev pub bad_entry_lem : Scale → List ℕ → Counts → Names → ℕ → Bool
-bad_entry_lem s ws c names j = cond (j % 2 == 0) (bad_name ws c names (j / 2)) (bad_value s (entry_word_lem ws c names j))
+abbrev pub bad_entry : Scale → List ℕ → Counts → Names → ℕ → Bool
+bad_entry s ws c names j = cond (j % 2 == 0) (bad_name ws c names (j / 2)) (bad_value s (entry_word ws c names j))
 
 -- a part of the words: where it lies, and which of its words are bad
 pub record Part : Type 0 where
@@ -108,14 +108,14 @@ part x b = record { lies = x; bad = b }
 
 -- the parts: the counts, the districts and the border order, and the offsets and entries of the rows of one kind
 abbrev pub count_parts : Counts → List Part
-count_parts c = part (section 0 8) (bad_count_lem c) ∷ []
+count_parts c = part (section 0 8) (bad_count c) ∷ []
 
 abbrev pub place_parts : List ℕ → Counts → List Part
-place_parts ws c = part (places_at c) (bad_district_lem ws c) ∷ part (order_at c) (bad_border_lem ws c) ∷ []
+place_parts ws c = part (places_at c) (bad_district ws c) ∷ part (order_at c) (bad_border ws c) ∷ []
 
 abbrev pub row_parts : Scale → List ℕ → Counts → Names → List Part
 row_parts s ws c names =
-    part (offsets_at c names) (bad_offset_lem ws c names) ∷ part (entries_at c names) (bad_entry_lem s ws c names) ∷ []
+    part (offsets_at c names) (bad_offset ws c names) ∷ part (entries_at c names) (bad_entry s ws c names) ∷ []
 
 -- all parts of a book, in order
 abbrev pub parts : Scale → List ℕ → Counts → List Part

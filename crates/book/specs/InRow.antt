@@ -4,7 +4,7 @@ use Rattle.measure.specs.Scale.{Scale}
 use Rattle.book.specs.declared.counts.Counts.{Counts}
 use Rattle.book.specs.declared.names.Names.{Names}
 use Rattle.book.specs.Layout.{Section, section}
-use Rattle.book.specs.Bad.{entries_at, entry_word_lem, right_name, bad_value}
+use Rattle.book.specs.Bad.{entries_at, entry_word, right_name, bad_value}
 
 -- the entries from number `begin` to before number `end`
 abbrev pub stretch : Counts → Names → ℕ → ℕ → Section
@@ -13,10 +13,10 @@ stretch c names begin end = section ((entries_at c names).first + 2 * begin) (2 
 -- in the row of junction v that begins with entry number `from`, the name in entry number e is not right, or not above the name before it
 abbrev pub bad_name_in : List ℕ → Counts → Names → ℕ → ℕ → ℕ → Bool
 bad_name_in ws c names v from e =
-    not (right_name ws c names v (entry_word_lem ws c names (2 * e)))
-    || (not (e == from) && nat_le (entry_word_lem ws c names (2 * e)) (entry_word_lem ws c names (2 * (e - 1))))
+    not (right_name ws c names v (entry_word ws c names (2 * e)))
+    || (not (e == from) && nat_le (entry_word ws c names (2 * e)) (entry_word ws c names (2 * (e - 1))))
 
 -- in that row, word number j of the entries is bad: the name or the value of its entry
 abbrev pub bad_word_in : Scale → List ℕ → Counts → Names → ℕ → ℕ → ℕ → Bool
 bad_word_in s ws c names v from j =
-    cond (j % 2 == 0) (bad_name_in ws c names v from (j / 2)) (bad_value s (entry_word_lem ws c names j))
+    cond (j % 2 == 0) (bad_name_in ws c names v from (j / 2)) (bad_value s (entry_word ws c names j))

@@ -3,7 +3,7 @@ use Rattle.std.specs.Prelude.{◌≡◌, ℕ, ◌*◌, ◌≤◌, false, List, l
 use Rattle.book.specs.declared.counts.Counts.{Counts}
 use Rattle.book.specs.declared.names.Names.{Names}
 use Rattle.book.specs.Layout.{total}
-use Rattle.book.specs.Bad.{bad_offset_lem}
+use Rattle.book.specs.Bad.{bad_offset}
 
 -- what the checks of sections rest on
 pub record Ready (ws : List ℕ) (c : Counts) : Type 0 where
@@ -18,4 +18,4 @@ pub record Ready (ws : List ℕ) (c : Counts) : Type 0 where
 
 -- no offset is bad
 abbrev pub GoodOffsets : List ℕ → Counts → Names → Type 0
-GoodOffsets ws c names = (j : ℕ) → j ≤ c.junctions → bad_offset_lem ws c names j ≡ false
+GoodOffsets ws c names = (j : ℕ) → j ≤ c.junctions → bad_offset ws c names j ≡ false

@@ -1,6 +1,6 @@
 // The first bad word of the entries of a book.
 ghost use Rattle.std.specs.Prelude.{◌≡◌, ◌+◌, ◌-◌, ◌*◌, ◌<◌, ◌≤◌};
-ghost use Rattle.book.specs.Bad.{offset, entries_at, entry_count, right_name, bad_value, bad_entry_lem, Finds};
+ghost use Rattle.book.specs.Bad.{offset, entries_at, entry_count, right_name, bad_value, bad_entry, Finds};
 ghost use Rattle.book.specs.Found.{FirstInPart};
 ghost use Rattle.book.specs.InRow.{bad_name_in, bad_word_in};
 ghost use Rattle.book.specs.Ready.{GoodOffsets};
@@ -66,7 +66,7 @@ impl<'a> Laid<'a> {
     fn bad_in_row<M: Measure>(&self, names: Names, junction: u64) -> Option<u64>
         requires some { (1 ≤ junction) × (junction ≤ self.now.counts.junctions) }
         requires good { GoodOffsets self.now.words.now self.now.counts names }
-        ensures { Finds (bad_entry_lem M.Measure.scale self.now.words.now self.now.counts names) (2 * offset self.now.words.now self.now.counts names (junction - 1)) (2 * offset self.now.words.now self.now.counts names junction) result }
+        ensures { Finds (bad_entry M.Measure.scale self.now.words.now self.now.counts names) (2 * offset self.now.words.now self.now.counts names (junction - 1)) (2 * offset self.now.words.now self.now.counts names junction) result }
     {
         let from = self.offset(names, junction - 1);
         let to = self.offset(names, junction);
@@ -76,7 +76,7 @@ impl<'a> Laid<'a> {
     // The place of the first bad word of the border entries or of the district entries.
     pub(crate) fn bad_entry<M: Measure>(&self, names: Names) -> Option<u64>
         requires { GoodOffsets self.now.words.now self.now.counts names }
-        ensures { FirstInPart (entries_at self.now.counts names) (bad_entry_lem M.Measure.scale self.now.words.now self.now.counts names) result }
+        ensures { FirstInPart (entries_at self.now.counts names) (bad_entry M.Measure.scale self.now.words.now self.now.counts names) result }
     {
         let entries = self.entries(names);
         (1..=self.counts.junctions)

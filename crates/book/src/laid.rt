@@ -1,6 +1,6 @@
 // The words of a book of which no count is bad, and what stands in its sections.
 ghost use Rattle.std.specs.Prelude.{◌≡◌, ◌+◌, ◌*◌, ◌<◌, ◌≤◌, length};
-ghost use Rattle.book.specs.Bad.{entry_count, entry_word_lem, offset};
+ghost use Rattle.book.specs.Bad.{entry_count, entry_word, offset};
 ghost use Rattle.book.specs.Layout.{word, words_in, places_at, order_at};
 ghost use Rattle.book.specs.InRow.{stretch};
 ghost use Rattle.book.specs.Ready.{Ready};
@@ -61,7 +61,7 @@ impl<'a> Laid<'a> {
     // Word number j of the entries of those rows.
     pub(crate) fn entry_word(&self, names: Names, j: u64) -> u64
         requires { j < 2 * entry_count self.now.counts names }
-        ensures { result ≡ entry_word_lem self.now.words.now self.now.counts names j }
+        ensures { result ≡ entry_word self.now.words.now self.now.counts names j }
     {
         self.word_at(self.entries(names), j)
     }

@@ -1,6 +1,6 @@
 // Opening a book.
 ghost use Rattle.std.specs.Prelude.{◌≡◌, ◌+◌, ◌<◌, ◌≤◌, [], ◌++◌, length, take};
-ghost use Rattle.book.specs.Bad.{count_faults, bad_district_lem, bad_border_lem, bad_offset_lem, offsets_at, place_parts, row_parts};
+ghost use Rattle.book.specs.Bad.{count_faults, bad_district, bad_border, bad_offset, offsets_at, place_parts, row_parts};
 ghost use Rattle.book.specs.Found.{first_true, FirstIn, FirstInPart, Few, Marks};
 ghost use Rattle.book.specs.Layout.{counts_of, total, words_in, places_at, order_at};
 ghost use Rattle.book.specs.Opened.{open_checks, OpensExactlyBooks};
@@ -96,14 +96,14 @@ impl<'a> Laid<'a> {
     // Whether the district of junction j + 1 is bad.
     fn is_bad_district(&self, j: u64) -> bool
         requires { j < self.now.counts.junctions }
-        ensures { result ≡ bad_district_lem self.now.words.now self.now.counts j }
+        ensures { result ≡ bad_district self.now.words.now self.now.counts j }
     {
         self.district(j) >= self.counts.districts
     }
 
     // The place of the first bad district.
     fn bad_district(&self) -> Option<u64>
-        ensures { FirstInPart (places_at self.now.counts) (bad_district_lem self.now.words.now self.now.counts) result }
+        ensures { FirstInPart (places_at self.now.counts) (bad_district self.now.words.now self.now.counts) result }
     {
         let places = self.places();
         (0..self.counts.junctions)
@@ -114,7 +114,7 @@ impl<'a> Laid<'a> {
     // Whether the border of rank j is bad, where the borders before it are marked.
     fn is_bad_border(&self, seen: &[bool], j: u64) -> bool
         requires { (j < self.now.counts.borders) × (Marks seen.now (take j (words_in (order_at self.now.counts) self.now.words.now))) }
-        ensures { result ≡ bad_border_lem self.now.words.now self.now.counts j }
+        ensures { result ≡ bad_border self.now.words.now self.now.counts j }
     {
         let border = self.border(j);
         border < 1 || border > self.counts.junctions || seen[border as usize]
@@ -122,7 +122,7 @@ impl<'a> Laid<'a> {
 
     // The place of the first bad border.
     fn bad_border(&self) -> Option<u64>
-        ensures { FirstInPart (order_at self.now.counts) (bad_border_lem self.now.words.now self.now.counts) result }
+        ensures { FirstInPart (order_at self.now.counts) (bad_border self.now.words.now self.now.counts) result }
     {
         let order = self.order();
         let mut seen = no_marks();
@@ -150,7 +150,7 @@ impl<'a> Laid<'a> {
     // Whether offset number j is bad.
     fn is_bad_offset(&self, names: Names, j: u64) -> bool
         requires { j ≤ self.now.counts.junctions }
-        ensures { result ≡ bad_offset_lem self.now.words.now self.now.counts names j }
+        ensures { result ≡ bad_offset self.now.words.now self.now.counts names j }
     {
         let offset = self.offset(names, j);
         let falls = if j == 0 {
@@ -164,7 +164,7 @@ impl<'a> Laid<'a> {
 
     // The place of the first bad offset of the rows that name their hubs so.
     fn bad_offset(&self, names: Names) -> Option<u64>
-        ensures { FirstInPart (offsets_at self.now.counts names) (bad_offset_lem self.now.words.now self.now.counts names) result }
+        ensures { FirstInPart (offsets_at self.now.counts names) (bad_offset self.now.words.now self.now.counts names) result }
     {
         let offsets = self.offsets(names);
         (0..self.counts.junctions + 1)

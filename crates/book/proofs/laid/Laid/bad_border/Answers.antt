@@ -1,5 +1,5 @@
 use Rattle.std.proofs.Common.{◌≡◌, false, sym}
-use Rattle.book.specs.Bad.{bad_border_lem}
+use Rattle.book.specs.Bad.{bad_border}
 use Rattle.book.proofs.Searches.{one_word_more}
 use Rattle.book.proofs.Borders.{border_marked}
 use Rattle.book.proofs.laid.Laid.bad_border.Goals as goal
@@ -9,8 +9,8 @@ loop-j-preserved c =
     let ws = c.args.self.now.words.now in
     let counts = c.args.self.now.counts in
     let j = c.loop-j.j in
-    let good : bad_border_lem ws counts j ≡ false = sym {b = bad_border_lem ws counts j} c.if-is_bad_border.ensures in (
-      one_word_more (bad_border_lem ws counts) 0 j c.loop-j.invariant.0 good,
+    let good : bad_border ws counts j ≡ false = sym {b = bad_border ws counts j} c.if-is_bad_border.ensures in (
+      one_word_more (bad_border ws counts) 0 j c.loop-j.invariant.0 good,
       border_marked ws counts c.args.self.now.ready c.loop-j.seen j c.border.result c.loop-j-test.true c.border.ensures good
           c.loop-j.invariant.1,
     )

@@ -1,5 +1,5 @@
 use Rattle.std.proofs.Common.{rules, ◌*◌, ◌<◌}
-use Rattle.book.specs.Bad.{part, entries_at, entry_count, bad_entry_lem}
+use Rattle.book.specs.Bad.{part, entries_at, entry_count, bad_entry}
 use Rattle.book.proofs.Parts.{first_of_part}
 use Rattle.book.proofs.RowsSearched.{rows_searched}
 use Rattle.book.proofs.Searches.{is_below}
@@ -9,7 +9,7 @@ use Rattle.book.proofs.laid.Laid.bad_entry.Goals as goal
 pub map-requires : goal.map-requires
 map-requires g c j is =
     let counts = c.args.self.now.counts in
-    let test = bad_entry_lem g.M.Measure.scale c.args.self.now.words.now counts c.args.names in
+    let test = bad_entry g.M.Measure.scale c.args.self.now.words.now counts c.args.names in
     let found = rows_searched g.M.Measure.scale c.args.self.now.words.now counts c.args.names _ c.new.result c.find_map.result c.requires
     c.new.ensures.start c.new.ensures.end c.new.ensures.exhausted (λ v y q l m called. search rules)
     (λ a y q called. search rules) c.find_map.ensures.runs in
@@ -19,7 +19,7 @@ map-requires g c j is =
 pub returns : goal.returns
 returns g c =
     let counts = c.args.self.now.counts in
-    let test = bad_entry_lem g.M.Measure.scale c.args.self.now.words.now counts c.args.names in
+    let test = bad_entry g.M.Measure.scale c.args.self.now.words.now counts c.args.names in
     first_of_part (part (entries_at counts c.args.names) test) c.entries-entries.result.first (2 * entry_count counts c.args.names)
     c.entries-entries.ensures.first (entries_size counts c.args.names) _ _
     (rows_searched g.M.Measure.scale c.args.self.now.words.now counts c.args.names _ c.new.result c.find_map.result c.requires

@@ -1,6 +1,6 @@
 use Rattle.std.proofs.Common.{rules, ◌≡◌, ℕ, ◌<◌, ◌-◌, ◌*◌, ◌≤◌, sym, ap, ◌∙◌, arith}
 use Rattle.std.proofs.lemmas.Iterator.{serves_from_Range}
-use Rattle.book.specs.Bad.{offset, entry_count, bad_entry_lem, Finds}
+use Rattle.book.specs.Bad.{offset, entry_count, bad_entry, Finds}
 use Rattle.book.specs.InRow.{bad_word_in}
 use Rattle.book.proofs.BadInRow.{same_word}
 use Rattle.book.proofs.Pieces.{goes_over, found_in_pieces}
@@ -31,7 +31,7 @@ returns g c =
     found_in_pieces run.0 _ from to test (λ k. 2 * k) (goes_over run.0 from to run.1) (λ k y q l m called. search rules)
     c.find_map.result (omega arith) (λ k l m. (omega arith, omega arith)) (λ a y q called. search rules) run.2 in
     let here : from ≡ offset ws counts names (v - 1) = c.offset-from.ensures in
-    let same : (j : ℕ) → 2 * from ≤ j → j < 2 * to → bad_word_in s ws counts names v from j ≡ bad_entry_lem s ws counts names j = λ j l m.
+    let same : (j : ℕ) → 2 * from ≤ j → j < 2 * to → bad_word_in s ws counts names v from j ≡ bad_entry s ws counts names j = λ j l m.
     ap (λ n. bad_word_in s ws counts names v n j) here
     ∙ sym (same_word s ws counts names c.args.self.now.ready c.requires.good v c.requires.some.0 c.requires.some.1 j (omega arith) (omega arith)) in
-    rw (← c.offset-from.ensures, ← c.offset-to.ensures) (finds_alike (bad_entry_lem s ws counts names) test (2 * from) (2 * to) c.find_map.result same found)
+    rw (← c.offset-from.ensures, ← c.offset-to.ensures) (finds_alike (bad_entry s ws counts names) test (2 * from) (2 * to) c.find_map.result same found)

@@ -1,5 +1,5 @@
 use Rattle.std.proofs.Common.{None, rules}
-use Rattle.book.specs.Bad.{offsets_at, bad_offset_lem}
+use Rattle.book.specs.Bad.{offsets_at, bad_offset}
 use Rattle.book.specs.Found.{FirstInPart}
 use Rattle.book.specs.Ready.{GoodOffsets}
 use Rattle.book.proofs.BookParts.{in_rows, offsets_good}
@@ -9,7 +9,7 @@ pub or_else-requires : goal.or_else-requires
 or_else-requires g c none =
     let ws = c.args.self.now.words.now in
     let counts = c.args.self.now.counts in
-    let nothing : FirstInPart (offsets_at counts c.args.names) (bad_offset_lem ws counts c.args.names) None = rw none at c.bad_offset.ensures in
+    let nothing : FirstInPart (offsets_at counts c.args.names) (bad_offset ws counts c.args.names) None = rw none at c.bad_offset.ensures in
     let good : GoodOffsets ws counts c.args.names = offsets_good g.M.Measure.scale ws counts c.args.names nothing in
     search rules
 
