@@ -15,7 +15,7 @@ pub mod LaidEndToEnd
 pub mod Merge
 pub mod NothingBad
 pub mod Parts
-pub mod Pieces
+pub mod Ranges
 pub mod RowOfBook
 pub mod RowOffsets
 pub mod RowsInWords

@@ -1,5 +1,5 @@
 -- All rows of one kind, searched one after another. Assumes nothing.
-use Rattle.std.proofs.Common.{◌≡◌, ℕ, ◌+◌, ◌-◌, ◌*◌, ◌<◌, ◌≤◌, false, List, Some, None, Option, sym, refl, subst, arith}
+use Rattle.std.proofs.Common.{◌≡◌, ℕ, ◌+◌, ◌-◌, ◌*◌, ◌<◌, ◌≤◌, false, List, Some, None, Option, refl, subst, arith}
 use Rattle.std.specs.Bool.{IsTrue}
 use Rattle.std.specs.Fn.{Called}
 use Rattle.std.specs.Iterator.Runs.{SomeRun, AllItemsGive, IsFirstToGive}
@@ -13,7 +13,7 @@ use Rattle.book.specs.Bad.{offset, entry_count, bad_entry, Finds}
 use Rattle.book.specs.Ready.{GoodOffsets}
 use Rattle.book.specs.declared.counts.Counts.{Counts}
 use Rattle.book.specs.declared.names.Names.{Names}
-use Rattle.book.proofs.Pieces.{goes_up_to, found_in_rows}
+use Rattle.book.proofs.Ranges.{goes_up_to, found_in_rows}
 use Rattle.book.proofs.RowsOfEntries.{offsets_ascend, offsets_begin_at_zero, offsets_end_at_the_count}
 
 -- where a call at v searches the row of junction v
@@ -26,7 +26,7 @@ pub rows_searched :
     → Finds (bad_entry s ws c names) 0 (2 * entry_count c names) r
 rows_searched s ws c names f from r good begins ends fresh calls keeps run =
     let test = bad_entry s ws c names in
-    let up = goes_up_to run.0 1 c.junctions (subst (λ w. range_inclusive_start w ≡ 1) (sym run.1) begins) (subst (λ w. range_inclusive_end w ≡ c.junctions) (sym run.1) ends) (subst (λ w. range_inclusive_exhausted w ≡ false) (sym run.1) fresh) in
+    let up = goes_up_to run.0 from 1 c.junctions run.1 begins ends fresh in
     let found : Finds test (2 * offset ws c names 0) (2 * offset ws c names c.junctions) r =
     found_in_rows run.0 f c.junctions test (λ v. 2 * offset ws c names v) up calls r
     (λ i j l m. let h = offsets_ascend ws c names good i j l m in omega arith) keeps run.2 in

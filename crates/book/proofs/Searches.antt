@@ -1,13 +1,6 @@
 -- A search that goes on where it has found nothing so far. Assumes nothing.
-use Rattle.std.proofs.Common.{◌≡◌, ℕ, ◌+◌, ◌<◌, ◌≤◌, Bool, true, false, Some, None, Option, sym, subst, ◌∙◌, ⊎_elim, arith, Bor}
-use Rattle.std.specs.Fn.{CalledAt}
-use Rattle.std.specs.Iterator.{FindsItem}
-use Rattle.std.specs.Option.{MatchOption}
-use Rattle.std.specs.declared.ops.Range.{Range}
-use Rattle.std.proofs.iter.Yields.{nat_range_steps}
+use Rattle.std.proofs.Common.{◌≡◌, ℕ, ◌+◌, ◌<◌, ◌≤◌, Bool, false, Some, None, Option, sym, subst, ◌∙◌, ⊎_elim, arith}
 use Rattle.std.proofs.lemmas.Bool.{cases_lt}
-use Rattle.std.proofs.lemmas.Iterator.{first_from_Range}
-use denote.Param.Members.{Mut}
 use Rattle.book.specs.Bad.{Finds}
 
 -- what fails from low up to i and at i fails up to i + 1
@@ -34,18 +27,6 @@ pub finds_alike : (test other : ℕ → Bool) (low high : ℕ) (r : Option ℕ) 
 finds_alike test other low high None same h = λ j l less. sym (same j l less) ∙ h j l less
 finds_alike test other low high (Some i) same h =
     (h.0, h.1, sym (same i h.0 h.1) ∙ h.2, λ j l less. sym (same j l (omega (arith, h.1))) ∙ h.3 j l less)
-
--- what `find` answers over the numbers from low up to high, where its closure computes the test
-pub found_in_range :
-    {F : Type 0} {g : Mut F (Bor ℕ × Unit {0}) Bool} (test : ℕ → Bool) (s u : Range ℕ) (f : F) (r : Option ℕ) → FindsItem nat_range_steps g s f r u
-    → ((x : ℕ) (b : Bool) (q : F) → CalledAt g f x b q → (q ≡ f) × (b ≡ test x)) → Finds test s.start s.end r
-found_in_range test s u f r ran computes =
-    by r (first_from_Range s u f r (λ x. test x ≡ true) (λ x. test x ≡ false) ran (λ x q k. sym (computes x true q k).1)
-    (λ x q k. let h = computes x false q k in (h.0, sym h.1)))
-  where
-    by : (o : Option ℕ) → MatchOption o ((k : ℕ) → s.start ≤ k → k < s.end → test k ≡ false) (λ i. (s.start ≤ i) × (i < s.end) × (test i ≡ true) × ((k : ℕ) → s.start ≤ k → k < i → test k ≡ false)) → Finds test s.start s.end o
-    by None h = h
-    by (Some i) h = h
 
 -- what was found is below the end
 pub is_below : (test : ℕ → Bool) (low high : ℕ) (r : Option ℕ) → Finds test low high r → (i : ℕ) → r ≡ Some i → i < high

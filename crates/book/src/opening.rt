@@ -167,7 +167,7 @@ impl<'a> Laid<'a> {
         ensures { FirstInPart (offsets_at self.now.counts names) (bad_offset self.now.words.now self.now.counts names) result }
     {
         let offsets = self.offsets(names);
-        (0..self.counts.junctions + 1)
+        (0..=self.counts.junctions)
             .find(|&j| self.is_bad_offset(names, j))
             .map(|j| offsets.place(j))
     }

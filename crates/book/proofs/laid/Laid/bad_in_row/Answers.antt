@@ -3,7 +3,7 @@ use Rattle.std.proofs.lemmas.Iterator.{serves_from_Range}
 use Rattle.book.specs.Bad.{offset, entry_count, bad_entry, Finds}
 use Rattle.book.specs.InRow.{bad_word_in}
 use Rattle.book.proofs.BadInRow.{same_word}
-use Rattle.book.proofs.Pieces.{goes_over, found_in_pieces}
+use Rattle.book.proofs.Ranges.{goes_over, found_in_pieces}
 use Rattle.book.proofs.RowsOfEntries.{next_offset, offset_within}
 use Rattle.book.proofs.Searches.{finds_alike}
 use Rattle.book.proofs.laid.Laid.bad_in_row.Goals as goal

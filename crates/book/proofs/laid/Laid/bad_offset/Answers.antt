@@ -1,14 +1,19 @@
 use Rattle.std.proofs.Common.{rules, ◌+◌}
 use Rattle.book.specs.Bad.{part, offsets_at, bad_offset}
 use Rattle.book.proofs.Parts.{first_of_part}
-use Rattle.book.proofs.Searches.{found_in_range}
+use Rattle.book.proofs.Ranges.{goes_up_to, found_first}
 use Rattle.book.proofs.SectionWords.{offsets_size}
 use Rattle.book.proofs.laid.Laid.bad_offset.Goals as goal
 
 pub returns : goal.returns
 returns c =
     let counts = c.args.self.now.counts in
-    let test = bad_offset c.args.self.now.words.now counts c.args.names in
-    first_of_part (part (offsets_at counts c.args.names) test) c.offsets-offsets.result.first (counts.junctions + 1)
-    c.offsets-offsets.ensures.first (offsets_size counts c.args.names) _ _
-    (found_in_range test _ _ _ _ c.find.ensures.ran (λ x b q k. search rules)) c.map.ensures.cases (λ j i k. search rules)
+    let names = c.args.names in
+    let test = bad_offset c.args.self.now.words.now counts names in
+    let run = c.find.ensures.runs in
+    first_of_part (part (offsets_at counts names) test) c.offsets-offsets.result.first (counts.junctions + 1)
+    c.offsets-offsets.ensures.first (offsets_size counts names) _ _
+    (found_first run.0 _ 0 (counts.junctions + 1) test
+    (goes_up_to run.0 c.new.result 0 counts.junctions run.1 c.new.ensures.start c.new.ensures.end c.new.ensures.exhausted)
+    (λ a b q k. search rules) (λ x b q k. search rules) c.find.result run.2)
+    c.map.ensures.cases (λ j i k. search rules)

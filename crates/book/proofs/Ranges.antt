@@ -1,12 +1,12 @@
--- A search through pieces that follow one another, each of which is searched by itself, as `find_map` goes from number to number.
--- Assumes nothing.
-use Rattle.std.proofs.Common.{◌≡◌, ℕ, zero, suc, ◌+◌, ◌-◌, ◌<◌, ◌≤◌, Bool, false, Some, None, Option, subst, arith}
+-- What `find` and `find_map` answer over the numbers of a range. Assumes nothing.
+use Rattle.std.proofs.Common.{◌≡◌, ℕ, zero, suc, ◌+◌, ◌-◌, ◌<◌, ◌≤◌, Bool, true, false, Some, None, Option, sym, ap, ◌∙◌, subst, arith, Bor}
 use Rattle.std.specs.Bool.{IsTrue}
-use Rattle.std.specs.Fn.{Called}
-use Rattle.std.specs.Iterator.Runs.{Run, ItemsCountUp, AllItemsGive, IsFirstToGive}
+use Rattle.std.specs.Fn.{Called, CalledAt}
+use Rattle.std.specs.Iterator.Runs.{Run, ItemsCountUp, CallKeepsClosure, NoItemPasses, EndsAtFirstPassing, AllItemsGive, IsFirstToGive}
 use Rattle.std.specs.Option.{MatchOption, IfSome, IsSomeAnd, option_map}
 use Rattle.std.specs.Range.{range_inclusive_start, range_inclusive_end, range_inclusive_exhausted}
 use Rattle.std.specs.declared.ops.Range.{Range}
+use Rattle.std.specs.declared.ops.RangeInclusive.{RangeInclusive}
 use Rattle.std.proofs.iter.Yields.{nat_range_steps}
 use Rattle.std.proofs.iter.runs.Sources.{nat_range_inclusive_steps, range_runs, inclusive_listed}
 use denote.Param.Members.{Mut}
@@ -27,16 +27,45 @@ pub goes_over : (p : Run nat_range_steps) (low high : ℕ) → p.from ≡ record
 goes_over p low high is = subst (λ (s : Range ℕ). ItemsCountUp p s.start s.end) is (range_runs p p.seen)
 
 pub goes_up_to :
-    (p : Run nat_range_inclusive_steps) (low last : ℕ) → range_inclusive_start p.from ≡ low → range_inclusive_end p.from ≡ last
-    → range_inclusive_exhausted p.from ≡ false → ItemsCountUp p low (last + 1)
-goes_up_to p low last begins ends fresh =
+    (p : Run nat_range_inclusive_steps) (from : RangeInclusive ℕ) (low last : ℕ) → p.from ≡ from → range_inclusive_start from ≡ low
+    → range_inclusive_end from ≡ last → range_inclusive_exhausted from ≡ false → ItemsCountUp p low (last + 1)
+goes_up_to p from low last is begins ends fresh =
     let listed = inclusive_listed p p.seen in
-    subst (λ n. ItemsCountUp p low (n + 1)) ends
-    (subst (λ n. ItemsCountUp p n (range_inclusive_end p.from + 1)) begins
-    (subst (λ n. ItemsCountUp p (range_inclusive_start p.from) n) listed.3
-    (subst (λ n. ItemsCountUp p n listed.1) listed.2 (listed.4 fresh).0)))
+    let up = (listed.4 (subst (λ w. range_inclusive_exhausted w ≡ false) (sym is) fresh)).0 in
+    let first : listed.0 ≡ low = listed.2 ∙ ap range_inclusive_start is ∙ begins in
+    let past : listed.1 ≡ last + 1 = listed.3 ∙ ap (λ w. range_inclusive_end w + 1) is ∙ ap (λ n. n + 1) ends in
+    subst (λ n. ItemsCountUp p low n) past (subst (λ n. ItemsCountUp p n listed.1) first up)
 
--- Piece k begins at place `bound k`, and a call at k searches it.
+-- `find`, where its closure computes a test
+module _ {S F : Type 0} {steps : S → Option ℕ → S → Type 0} (p : Run steps) {g : Mut F (Bor ℕ × Unit {0}) Bool} (f : F) (low high : ℕ) (test : ℕ → Bool) (up : ItemsCountUp p low high) (keeps : CallKeepsClosure g f) (calls : (x : ℕ) (b : Bool) (q : F) → CalledAt g f x b q → b ≡ test x) where
+  pub found_first : (r : Option ℕ) → MatchOption r (IsTrue p.whole × NoItemPasses p g f) (EndsAtFirstPassing p g f) → Finds test low high r
+  found_first None h = λ j l m.
+      let same : low + (j - low) ≡ j = omega arith in
+      let here : CalledAt g f (low + (j - low)) false f =
+      at_item (p.at (j - low)) (low + (j - low)) (λ x. CalledAt g f x false f) (up.3 (j - low) (omega (arith, up.1 h.0)))
+      (h.1 keeps (j - low))
+      in
+      subst (λ n. test n ≡ false) same (sym (calls (low + (j - low)) false f here))
+  found_first (Some x) h =
+      let i = h.0 in
+      let passes = h.3 keeps in
+      let there : Some x ≡ Some (low + i) =
+      subst (λ o. option_map (λ y. y) o ≡ Some (low + i)) h.2 (up.3 i (omega (arith, h.1)))
+      in
+      let place : x ≡ low + i = cc in (
+        omega arith,
+        omega (arith, h.1, up.0),
+        sym (calls x true f passes.0),
+        λ j l m.
+            let same : low + (j - low) ≡ j = omega arith in
+            let here : CalledAt g f (low + (j - low)) false f =
+            at_some_item (p.at (j - low)) (low + (j - low)) (λ y. CalledAt g f y false f) (up.3 (j - low) (omega (arith, h.1)))
+            (passes.1 (j - low) (omega arith))
+            in
+            subst (λ n. test n ≡ false) same (sym (calls (low + (j - low)) false f here)),
+      )
+
+-- `find_map` through pieces that follow one another, each of which is searched by itself. Piece k begins at place `bound k`, and a call at k searches it.
 module _ {S F : Type 0} {steps : S → Option ℕ → S → Type 0} (p : Run steps) {g : Mut F (ℕ × Unit {0}) (Option ℕ)} (f : F) (low high : ℕ) (test : ℕ → Bool) (bound : ℕ → ℕ) (up : ItemsCountUp p low high) (calls : (k : ℕ) (y : Option ℕ) (q : F) → low ≤ k → k < high → Called g f (k, tt) y q → Finds test (bound k) (bound (k + 1)) y) where
   -- nothing in the first n pieces
   nothing_in : (n : ℕ) → low + n ≤ high → ((k : ℕ) → k < n → Called g f (low + k, tt) None f) → Finds test (bound low) (bound (low + n)) None
