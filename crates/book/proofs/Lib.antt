@@ -23,3 +23,5 @@ pub mod RowsOfEntries
 pub mod RowsSearched
 pub mod Searches
 pub mod SectionWords
+pub mod RowAt
+pub mod Telling

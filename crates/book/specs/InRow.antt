@@ -6,10 +6,6 @@ use Rattle.book.specs.declared.names.Names.{Names}
 use Rattle.book.specs.Layout.{Section, section}
 use Rattle.book.specs.Bad.{entries_at, entry_word, right_name, bad_value}
 
--- the entries from number `begin` to before number `end`
-abbrev pub stretch : Counts → Names → ℕ → ℕ → Section
-stretch c names begin end = section ((entries_at c names).first + 2 * begin) (2 * (end - begin))
-
 -- in the row of junction v that begins with entry number `from`, the name in entry number e is not right, or not above the name before it
 abbrev pub bad_name_in : List ℕ → Counts → Names → ℕ → ℕ → ℕ → Bool
 bad_name_in ws c names v from e =

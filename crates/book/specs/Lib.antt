@@ -4,7 +4,9 @@ pub mod Found
 pub mod InRow
 pub mod Joining
 pub mod Layout
+pub mod Sections
 pub mod Opened
+pub mod Parts
 pub mod Ready
 pub mod Told
 pub mod Words

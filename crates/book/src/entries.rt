@@ -13,7 +13,7 @@ use measure::Measure;
 fn is_bad_value<M: Measure>(value: u64) -> bool
     ensures { result ≡ bad_value M.Measure.scale value }
 {
-    !M::is_value(value) || value == M::none_word()
+    !M::is_value(value) || value == M::NONE
 }
 
 impl<'a> Laid<'a> {
@@ -78,7 +78,7 @@ impl<'a> Laid<'a> {
         requires { GoodOffsets self.now.words.now self.now.counts names }
         ensures { FirstInPart (entries_at self.now.counts names) (bad_entry M.Measure.scale self.now.words.now self.now.counts names) result }
     {
-        let entries = self.entries(names);
+        let entries = self.sections.entries(names);
         (1..=self.counts.junctions)
             .find_map(|junction| self.bad_in_row::<M>(names, junction))
             .map(|j| entries.place(j))

@@ -34,7 +34,7 @@ fn read_counts<M: Measure>(words: &[u64]) -> Result<Counts, Refusal>
     else {
         return Err(Refusal::NoBook);
     };
-    if tag != M::tag_word() {
+    if tag != M::TAG {
         return Err(Refusal::OtherMeasure);
     }
     if (words.len() as u64) < said {
@@ -105,7 +105,7 @@ impl<'a> Laid<'a> {
     fn bad_district(&self) -> Option<u64>
         ensures { FirstInPart (places_at self.now.counts) (bad_district self.now.words.now self.now.counts) result }
     {
-        let places = self.places();
+        let places = self.sections.places;
         (0..self.counts.junctions)
             .find(|&j| self.is_bad_district(j))
             .map(|j| places.place(j))
@@ -124,7 +124,7 @@ impl<'a> Laid<'a> {
     fn bad_border(&self) -> Option<u64>
         ensures { FirstInPart (order_at self.now.counts) (bad_border self.now.words.now self.now.counts) result }
     {
-        let order = self.order();
+        let order = self.sections.order;
         let mut seen = no_marks();
         // A loop: each round marks a border too, and a `find` whose closure does that would be no plainer.
         for j in 0..self.counts.borders {
@@ -158,7 +158,7 @@ impl<'a> Laid<'a> {
         } else {
             offset < self.offset(names, j - 1)
         };
-        let entries = self.entry_count(names);
+        let entries = self.counts.entry_count(names);
         falls || offset > entries || (j == self.counts.junctions && offset != entries)
     }
 
@@ -166,7 +166,7 @@ impl<'a> Laid<'a> {
     fn bad_offset(&self, names: Names) -> Option<u64>
         ensures { FirstInPart (offsets_at self.now.counts names) (bad_offset self.now.words.now self.now.counts names) result }
     {
-        let offsets = self.offsets(names);
+        let offsets = self.sections.offsets(names);
         (0..=self.counts.junctions)
             .find(|&j| self.is_bad_offset(names, j))
             .map(|j| offsets.place(j))
@@ -208,9 +208,18 @@ pub fn open<M: Measure>(words: &[u64]) -> Result<Book<'_>, Refusal>
     if let Some(place) = counts.first_bad() {
         return Err(bad_word(place));
     }
-    let laid = Laid { words, counts };
+    let sections = counts.sections();
+    let laid = Laid {
+        words,
+        counts,
+        sections,
+    };
     if let Some(place) = laid.first_bad::<M>() {
         return Err(bad_word(place));
     }
-    Ok(Book { laid })
+    Ok(Book {
+        words,
+        counts,
+        sections,
+    })
 }

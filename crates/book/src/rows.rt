@@ -1,23 +1,63 @@
 // The rows of an opened book.
 ghost use Rattle.book.specs.Opened.{HandsOutTheRow};
+ghost use Rattle.book.specs.Parts.{IsPart, IsWord, IsStretch};
+ghost use Rattle.book.specs.Sections.{offsets_of};
 ghost use Rattle.book.specs.declared.names.Names.TheVariants.{Ranks, Hubs};
 ghost use Rattle.measure.specs.Scale.{Scale};
 
-use super::Book;
 use super::names::Names;
+use super::{Book, Span};
 use drawing::Refusal;
 
+// The part of the words that the span says, where they are all there.
+fn part(words: &[u64], span: Span) -> Result<&[u64], Refusal>
+    ensures { IsPart words.now span result }
+{
+    if (words.len() as u64) < span.total {
+        return Err(Refusal::NoBook);
+    }
+    Ok(&words[span.first as usize..span.after() as usize])
+}
+
+impl Span {
+    // Of a section of entries, those from number `begin` to before number `end`.
+    fn stretch(&self, begin: u64, end: u64) -> Span
+        ensures { IsStretch self.now begin end result }
+    {
+        let first = self.first.saturating_add(begin.saturating_mul(2));
+        let length = end.saturating_sub(begin).saturating_mul(2);
+        Span::new(first, length, self.total)
+    }
+}
+
 impl<'a> Book<'a> {
+    // Word number j of a section.
+    pub(crate) fn word_in(&self, section: Span, j: u64) -> u64
+        ensures { IsWord self.now.words.now section j result }
+    {
+        self.words
+            .get(section.first.saturating_add(j) as usize)
+            .copied()
+            .unwrap_or(0)
+    }
+
+    // Offset number j of the rows with these names.
+    fn offset(&self, names: Names, j: u64) -> u64
+        ensures { IsWord self.now.words.now (offsets_of self.now.sections names) j result }
+    {
+        self.word_in(self.sections.offsets(names), j)
+    }
+
     // The row of a junction, among the rows with these names.
     fn row(&self, names: Names, junction: u64) -> Result<&'a [u64], Refusal>
         ensures { (s : Scale) → HandsOutTheRow s names self.now junction result }
     {
-        if junction < 1 || junction > self.laid.counts.junctions {
+        if junction < 1 || junction > self.counts.junctions {
             return Err(Refusal::NoJunction);
         }
-        let begin = self.laid.offset(names, junction - 1);
-        let end = self.laid.offset(names, junction);
-        Ok(self.laid.stretch(names, begin, end))
+        let begin = self.offset(names, junction - 1);
+        let end = self.offset(names, junction);
+        part(self.words, self.sections.entries(names).stretch(begin, end))
     }
 
     // The border row of a junction: its hubs are ranks in the border order.

@@ -1,55 +1,77 @@
 // The six sections of a book, each beginning where the one before it ends.
 ghost use Rattle.std.specs.Prelude.{◌≡◌};
-ghost use Rattle.book.specs.Bad.{offsets_at, entries_at, entry_count};
-ghost use Rattle.book.specs.Layout.{Spans, places_at, order_at};
+ghost use Rattle.book.specs.Bad.{entry_count};
+ghost use Rattle.book.specs.Found.{Few};
+ghost use Rattle.book.specs.Layout.{total};
+ghost use Rattle.book.specs.Sections.{HasSections, offsets_of, entries_of};
 
-use super::Span;
-use super::laid::Laid;
 use super::names::Names;
+use super::{Counts, Span};
 
-impl<'a> Laid<'a> {
-    // The district of each junction.
-    pub(crate) fn places(&self) -> Span
-        ensures { Spans (places_at self.now.counts) self.now.counts.words result }
-    {
-        Span::new(8, self.counts.junctions, self.counts.words)
-    }
+// Where the six sections of a book lie: the district of each junction, the border order, the offsets of the border rows, the
+// border entries, the offsets of the district rows, the district entries.
+#[derive(Clone, Copy, PartialEq, Eq, Debug)]
+pub(crate) struct Sections {
+    pub(crate) places: Span,
+    pub(crate) order: Span,
+    pub(crate) border_offsets: Span,
+    pub(crate) border_entries: Span,
+    pub(crate) district_offsets: Span,
+    pub(crate) district_entries: Span,
+}
 
-    // The border order.
-    pub(crate) fn order(&self) -> Span
-        ensures { Spans (order_at self.now.counts) self.now.counts.words result }
-    {
-        self.places().next(self.counts.borders)
-    }
-
-    // The offsets of the rows that name their hubs so: those of the district rows come after the border entries.
+impl Sections {
+    // The offsets of the rows that name their hubs so.
     pub(crate) fn offsets(&self, names: Names) -> Span
-        ensures { Spans (offsets_at self.now.counts names) self.now.counts.words result }
+        ensures { result ≡ offsets_of self.now names }
     {
-        let offsets = self.counts.junctions + 1;
-        let of_borders = self.order().next(offsets);
         match names {
-            Names::Ranks => of_borders,
-            Names::Hubs => of_borders
-                .next(2 * self.counts.border_entries)
-                .next(offsets),
+            Names::Ranks => self.border_offsets,
+            Names::Hubs => self.district_offsets,
         }
     }
 
-    // The entries of those rows, after their offsets.
+    // The entries of those rows.
     pub(crate) fn entries(&self, names: Names) -> Span
-        ensures { Spans (entries_at self.now.counts names) self.now.counts.words result }
-    {
-        self.offsets(names).next(2 * self.entry_count(names))
-    }
-
-    // How many entries those rows have.
-    pub(crate) fn entry_count(&self, names: Names) -> u64
-        ensures { result ≡ entry_count self.now.counts names }
+        ensures { result ≡ entries_of self.now names }
     {
         match names {
-            Names::Ranks => self.counts.border_entries,
-            Names::Hubs => self.counts.district_entries,
+            Names::Ranks => self.border_entries,
+            Names::Hubs => self.district_entries,
+        }
+    }
+}
+
+impl Counts {
+    // The sections that a book with these counts has.
+    pub(crate) fn sections(&self) -> Sections
+        requires few { Few self.now }
+        requires words { self.now.words ≡ total self.now }
+        ensures { HasSections self.now result }
+    {
+        let places = Span::new(8, self.junctions, self.words);
+        let order = places.next(self.borders);
+        let border_offsets = order.next(self.junctions + 1);
+        let border_entries = border_offsets.next(2 * self.border_entries);
+        let district_offsets = border_entries.next(self.junctions + 1);
+        let district_entries = district_offsets.next(2 * self.district_entries);
+        Sections {
+            places,
+            order,
+            border_offsets,
+            border_entries,
+            district_offsets,
+            district_entries,
+        }
+    }
+
+    // How many entries the rows that name their hubs so have.
+    pub(crate) fn entry_count(&self, names: Names) -> u64
+        ensures { result ≡ entry_count self.now names }
+    {
+        match names {
+            Names::Ranks => self.border_entries,
+            Names::Hubs => self.district_entries,
         }
     }
 }
