@@ -37,7 +37,7 @@ fn is_right_name(words: &[u64], counts: &Counts, names: Names, junction: u64, na
 fn is_bad_value<M: Measure>(value: u64) -> bool
     ensures { result ≡ bad_value M.Measure.scale value }
 {
-    !M::is_value(value) || value == M::none_word()
+    !M::is_value(value) || value == M::NONE
 }
 
 // Whether the name in entry number `number` is bad, in the row of a junction that begins with entry number `from`.

@@ -10,7 +10,7 @@ use measure::Measure;
 fn keep<M: Measure>(best: Option<(u64, u64)>, value: u64, hub: u64) -> Option<(u64, u64)>
     ensures { result ≡ kept M.Measure.scale best value hub }
 {
-    if value == M::none_word() {
+    if value == M::NONE {
         return best;
     }
     match best {

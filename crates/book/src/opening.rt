@@ -21,7 +21,7 @@ fn check_open<M: Measure>(words: &[u64]) -> Result<(), Refusal>
     if words.len() < 8 || words[0] != 1 {
         return Err(Refusal::NoBook);
     }
-    if words[1] != M::tag_word() {
+    if words[1] != M::TAG {
         return Err(Refusal::OtherMeasure);
     }
     if (words.len() as u64) < words[7] {
