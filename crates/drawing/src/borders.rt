@@ -15,7 +15,7 @@ struct Used<'a> {
 }
 
 impl<'a> Used<'a> {
-    // The district of a junction; 0 where there is none.
+    // The district of a junction. It is 0, and no `None`, where there is none: the definition of a border reads it so.
     fn district_of(&self, v: u64) -> u64
         ensures { result ≡ slice_index (places_in self.now.junctions.now) (v - 1) }
     {

@@ -40,6 +40,7 @@ fn check_value<M: Measure>(value: u64) -> Result<(), Refusal>
     }
 }
 
+// Refuses counts over their limits, and a junction table that is too short for them.
 fn check_start(
     junction_count: u64,
     district_count: u64,
@@ -171,6 +172,7 @@ impl Rest {
         Ok(())
     }
 
+    // Refuses what no road can be added for.
     fn check_add<M: Measure>(
         &self,
         roads: &[Road],
@@ -199,7 +201,8 @@ impl Rest {
         Ok(())
     }
 
-    // Refuses ends that are no two junctions of the drawing, and a value that a road may not have.
+    // Refuses ends that are no two junctions of the drawing, and a value that a road may not have. (Three numbers, as `add` has
+    // them: a `Road` in their place would ask for a mark too, which nothing here reads.)
     pub fn check_record<M: Measure>(
         &self,
         first: u64,

@@ -2,7 +2,6 @@
 ghost use Rattle.std.specs.Prelude.{◌≡◌, ℕ, ◌≤◌, ◌||◌, ◌==◌, false, ◌++◌, length, drop, filter};
 ghost use Rattle.drawing.specs.Marked.{is_marked};
 ghost use Rattle.std.specs.List.{range_with_len};
-ghost use Rattle.network.specs.Lists.{count_up};
 
 use super::MOST_JUNCTIONS;
 
