@@ -1,4 +1,5 @@
 pub mod Refusals
 pub mod Outcomes
 pub mod Edits
+pub mod Marked
 pub mod Borders

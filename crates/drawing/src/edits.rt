@@ -1,12 +1,13 @@
 // Starting a drawing, and the edits of one at rest.
-ghost use Rattle.std.specs.Prelude.{◌≡◌, ◌≤◌, [], ◌∷◌, length};
-ghost use Rattle.drawing.specs.Edits.{start_checks, all_in_district_0, StartsWithNoRoad};
+ghost use Rattle.std.specs.Prelude.{◌≡◌, not, [], ◌∷◌, length};
+ghost use Rattle.drawing.specs.Edits.{start_checks, StartsWithNoRoad};
 ghost use Rattle.drawing.specs.Edits.{add_checks, AppendsAnOpenRoad};
 ghost use Rattle.drawing.specs.Edits.{ChangesOneValue, ChangesOneMark, MovesOneJunction};
-ghost use Rattle.drawing.specs.Edits.{measure_check, size_check, junction_check, road_check, district_check, record_checks};
-ghost use Rattle.drawing.specs.Outcomes.{verdict};
+ghost use Rattle.drawing.specs.Edits.{within, measure_check, size_check, value_check, district_check, record_checks};
+ghost use Rattle.drawing.specs.Outcomes.{refuse, verdict};
 ghost use Rattle.drawing.specs.declared.tables.Mark.TheVariants.{Open, Closed};
 
+use super::tables::used;
 use super::{Junction, Mark, Refusal, Rest, Road};
 use measure::Measure;
 
@@ -17,6 +18,29 @@ pub const MOST_DISTRICTS: u64 = 64;
 
 pub const MOST_ROADS: u64 = 16_384;
 
+// Refuses a number that is not one of 1 to `most`.
+fn check_numbered(number: u64, most: u64, refusal: Refusal) -> Result<(), Refusal>
+    ensures { result ≡ verdict (refuse refusal (not (within 1 most number)) ∷ []) }
+{
+    if (1..=most).contains(&number) {
+        Ok(())
+    } else {
+        Err(refusal)
+    }
+}
+
+// Refuses a value that no road may have.
+fn check_value<M: Measure>(value: u64) -> Result<(), Refusal>
+    ensures { result ≡ verdict (value_check M.Measure.scale value ∷ []) }
+{
+    if M::is_lawful(value) {
+        Ok(())
+    } else {
+        Err(Refusal::NotLawful)
+    }
+}
+
+// Refuses counts over their limits, and a junction table that is too short for them.
 fn check_start(
     junction_count: u64,
     district_count: u64,
@@ -24,53 +48,10 @@ fn check_start(
 ) -> Result<(), Refusal>
     ensures { result ≡ verdict (start_checks junction_count district_count junctions.now) }
 {
-    if junction_count < 1 || junction_count > MOST_JUNCTIONS {
-        return Err(Refusal::BadCount);
-    }
-    if district_count < 1 || district_count > MOST_DISTRICTS {
-        return Err(Refusal::BadCount);
-    }
-    if (junctions.len() as u64) < junction_count {
-        return Err(Refusal::ShortTable {
-            needed: junction_count,
-        });
-    }
+    check_numbered(junction_count, MOST_JUNCTIONS, Refusal::BadCount)?;
+    check_numbered(district_count, MOST_DISTRICTS, Refusal::BadCount)?;
+    used(junctions, junction_count)?;
     Ok(())
-}
-
-fn check_add<M: Measure>(
-    drawing: &Rest,
-    roads: &[Road],
-    first: u64,
-    second: u64,
-    value: u64,
-) -> Result<(), Refusal>
-    ensures { result ≡ verdict (add_checks M.Measure.scale drawing.now roads.now first second value) }
-{
-    drawing.check_measure::<M>()?;
-    drawing.check_roads(roads)?;
-    drawing.check_junction(first)?;
-    drawing.check_junction(second)?;
-    if first == second {
-        return Err(Refusal::EndsAlike);
-    }
-    if !M::is_lawful(value) {
-        return Err(Refusal::NotLawful);
-    }
-    if drawing.roads >= MOST_ROADS || drawing.roads >= roads.len() as u64 {
-        return Err(Refusal::RoadsFull);
-    }
-    Ok(())
-}
-
-// Puts the first `count` junctions of the table into district 0.
-fn clear(junctions: &mut [Junction], count: usize)
-    requires { count ≤ length junctions.old }
-    ensures { junctions.new ≡ all_in_district_0 count junctions.old }
-{
-    for i in 0..count {
-        junctions[i] = Junction { district: 0 };
-    }
 }
 
 impl Rest {
@@ -83,9 +64,9 @@ impl Rest {
         ensures { StartsWithNoRoad M.Measure.scale junction_count district_count junctions.old result junctions.new }
     {
         check_start(junction_count, district_count, junctions)?;
-        clear(junctions, junction_count as usize);
+        junctions[..junction_count as usize].fill(Junction { district: 0 });
         Ok(Rest {
-            tag: M::tag_word(),
+            tag: M::TAG,
             junctions: junction_count,
             districts: district_count,
             roads: 0,
@@ -102,7 +83,7 @@ impl Rest {
     ) -> Result<u64, Refusal>
         ensures { AppendsAnOpenRoad M.Measure.scale self.old roads.old first second value result self.new roads.new }
     {
-        check_add::<M>(self, roads, first, second, value)?;
+        self.check_add::<M>(roads, first, second, value)?;
         roads[self.roads as usize] = Road {
             first,
             second,
@@ -119,10 +100,8 @@ impl Rest {
     {
         self.check_measure::<M>()?;
         self.check_roads(roads)?;
-        self.check_road(road)?;
-        if !M::is_lawful(value) {
-            return Err(Refusal::NotLawful);
-        }
+        check_numbered(road, self.roads, Refusal::NoRoad)?;
+        check_value::<M>(value)?;
         roads[road as usize - 1].value = value;
         Ok(())
     }
@@ -151,10 +130,8 @@ impl Rest {
         ensures { MovesOneJunction self.now junctions.old junction district result junctions.new }
     {
         self.check_junctions(junctions)?;
-        self.check_junction(junction)?;
-        if district >= self.districts {
-            return Err(Refusal::NoDistrict);
-        }
+        check_numbered(junction, self.junctions, Refusal::NoJunction)?;
+        self.check_district(district)?;
         junctions[junction as usize - 1].district = district;
         Ok(())
     }
@@ -163,7 +140,7 @@ impl Rest {
         ensures { ChangesOneMark self.now roads.old road mark result roads.new }
     {
         self.check_roads(roads)?;
-        self.check_road(road)?;
+        check_numbered(road, self.roads, Refusal::NoRoad)?;
         roads[road as usize - 1].mark = mark;
         Ok(())
     }
@@ -172,7 +149,7 @@ impl Rest {
     pub fn check_measure<M: Measure>(&self) -> Result<(), Refusal>
         ensures { result ≡ verdict (measure_check M.Measure.scale self.now ∷ []) }
     {
-        if self.tag == M::tag_word() {
+        if self.tag == M::TAG {
             Ok(())
         } else {
             Err(Refusal::OtherMeasure)
@@ -183,11 +160,7 @@ impl Rest {
     pub fn check_junctions(&self, junctions: &[Junction]) -> Result<(), Refusal>
         ensures { result ≡ verdict (size_check self.now.junctions (length junctions.now) ∷ []) }
     {
-        if (junctions.len() as u64) < self.junctions {
-            return Err(Refusal::ShortTable {
-                needed: self.junctions,
-            });
-        }
+        used(junctions, self.junctions)?;
         Ok(())
     }
 
@@ -195,17 +168,25 @@ impl Rest {
     pub fn check_roads(&self, roads: &[Road]) -> Result<(), Refusal>
         ensures { result ≡ verdict (size_check self.now.roads (length roads.now) ∷ []) }
     {
-        if (roads.len() as u64) < self.roads {
-            return Err(Refusal::ShortTable { needed: self.roads });
-        }
+        used(roads, self.roads)?;
         Ok(())
     }
 
-    fn check_junction(&self, junction: u64) -> Result<(), Refusal>
-        ensures { result ≡ verdict (junction_check self.now junction ∷ []) }
+    // Refuses what no road can be added for.
+    fn check_add<M: Measure>(
+        &self,
+        roads: &[Road],
+        first: u64,
+        second: u64,
+        value: u64,
+    ) -> Result<(), Refusal>
+        ensures { result ≡ verdict (add_checks M.Measure.scale self.now roads.now first second value) }
     {
-        if junction < 1 || junction > self.junctions {
-            return Err(Refusal::NoJunction);
+        self.check_measure::<M>()?;
+        self.check_roads(roads)?;
+        self.check_record::<M>(first, second, value)?;
+        if self.roads >= MOST_ROADS || self.roads >= roads.len() as u64 {
+            return Err(Refusal::RoadsFull);
         }
         Ok(())
     }
@@ -220,7 +201,8 @@ impl Rest {
         Ok(())
     }
 
-    // Refuses ends that are no two junctions of the drawing, and a value that a road may not have.
+    // Refuses ends that are no two junctions of the drawing, and a value that a road may not have. (Three numbers, as `add` has
+    // them: a `Road` in their place would ask for a mark too, which nothing here reads.)
     pub fn check_record<M: Measure>(
         &self,
         first: u64,
@@ -229,23 +211,11 @@ impl Rest {
     ) -> Result<(), Refusal>
         ensures { result ≡ verdict (record_checks M.Measure.scale self.now first second value) }
     {
-        self.check_junction(first)?;
-        self.check_junction(second)?;
+        check_numbered(first, self.junctions, Refusal::NoJunction)?;
+        check_numbered(second, self.junctions, Refusal::NoJunction)?;
         if first == second {
             return Err(Refusal::EndsAlike);
         }
-        if !M::is_lawful(value) {
-            return Err(Refusal::NotLawful);
-        }
-        Ok(())
-    }
-
-    fn check_road(&self, road: u64) -> Result<(), Refusal>
-        ensures { result ≡ verdict (road_check self.now road ∷ []) }
-    {
-        if road < 1 || road > self.roads {
-            return Err(Refusal::NoRoad);
-        }
-        Ok(())
+        check_value::<M>(value)
     }
 }

@@ -3,11 +3,13 @@
 
 mod borders;
 mod edits;
+mod marks;
 mod refusal;
 mod rest;
 mod tables;
 
 pub use edits::{MOST_DISTRICTS, MOST_JUNCTIONS, MOST_ROADS};
+pub use marks::Marks;
 pub use refusal::{Refusal, Table};
 pub use rest::Rest;
 pub use tables::{Junction, Mark, Road};

@@ -1,15 +1,15 @@
 // Why a call was refused.
 ghost use Rattle.std.specs.Prelude.{◌≡◌, Some};
-ghost use Rattle.drawing.specs.Refusals.{table_number_lem, written};
+ghost use Rattle.drawing.specs.Refusals.{first_number, written};
 
 use std::fmt;
 
-// The tables in which a bad entry may be found.
+// The tables in which a bad entry may be found, by their numbers in a refusal.
 #[derive(Clone, Copy, PartialEq, Eq, Debug)]
 pub enum Table {
-    Junctions,
-    Roads,
-    Book,
+    Junctions = 1,
+    Roads = 2,
+    Book = 3,
 }
 
 // A refusal. Its numbers, which users meet, are given by `numbers` in specs/Refusals.antt.
@@ -47,14 +47,26 @@ pub enum Refusal {
     BadText { line: u64, field: u64, cause: u64 },
 }
 
-// A table's number in a refusal.
-fn table_number(table: Table) -> u64
-    ensures { result ≡ table_number_lem table }
-{
-    match table {
-        Table::Junctions => 1,
-        Table::Roads => 2,
-        Table::Book => 3,
+impl Refusal {
+    // Which refusal it is, by the number that users know.
+    pub fn number(&self) -> u64
+        ensures { result ≡ first_number self.now }
+    {
+        match self {
+            Refusal::OtherMeasure => 1,
+            Refusal::BadCount => 2,
+            Refusal::ShortTable { .. } => 3,
+            Refusal::NoJunction => 4,
+            Refusal::NoRoad | Refusal::NoDistrict => 5,
+            Refusal::EndsAlike => 6,
+            Refusal::NotLawful => 7,
+            Refusal::RoadsFull => 8,
+            Refusal::NothingLeft | Refusal::WorkLeft => 9,
+            Refusal::ShortBook { .. } => 10,
+            Refusal::NoBook => 11,
+            Refusal::BadEntry { .. } => 12,
+            Refusal::BadText { .. } => 13,
+        }
     }
 }
 
@@ -63,25 +75,18 @@ impl fmt::Display for Refusal {
     ghost output = { λ r. Some (written r) };
 
     fn fmt<W: fmt::Write>(&self, f: &mut fmt::Formatter<W>) -> fmt::Result {
+        let number = self.number();
         match *self {
-            Refusal::OtherMeasure => write!(f, "1"),
-            Refusal::BadCount => write!(f, "2"),
-            Refusal::ShortTable { needed } => write!(f, "3 {needed}"),
-            Refusal::NoJunction => write!(f, "4"),
-            Refusal::NoRoad => write!(f, "5"),
-            Refusal::NoDistrict => write!(f, "5"),
-            Refusal::EndsAlike => write!(f, "6"),
-            Refusal::NotLawful => write!(f, "7"),
-            Refusal::RoadsFull => write!(f, "8"),
-            Refusal::NothingLeft => write!(f, "9"),
-            Refusal::WorkLeft => write!(f, "9"),
-            Refusal::ShortBook { words } => write!(f, "10 {words}"),
-            Refusal::NoBook => write!(f, "11"),
+            Refusal::ShortTable { needed } => write!(f, "{number} {needed}"),
+            Refusal::ShortBook { words } => write!(f, "{number} {words}"),
             Refusal::BadEntry { table, place } => {
-                let number = table_number(table);
-                write!(f, "12 {number} {place}")
+                let table = table as u64;
+                write!(f, "{number} {table} {place}")
             }
-            Refusal::BadText { line, field, cause } => write!(f, "13 {line} {field} {cause}"),
+            Refusal::BadText { line, field, cause } => {
+                write!(f, "{number} {line} {field} {cause}")
+            }
+            _ => write!(f, "{number}"),
         }
     }
 }

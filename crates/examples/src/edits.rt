@@ -4,15 +4,6 @@ use measure::{Clearance, Metres};
 use std::process::Abort;
 use std::test::Fail;
 
-const HERE: Junction = Junction { district: 0 };
-
-const BLANK: Road = Road {
-    first: 0,
-    second: 0,
-    value: 0,
-    mark: Mark::Closed,
-};
-
 // Three junctions in two districts, and two roads, in tables with one entry to spare.
 fn drawn(junctions: &mut [Junction], roads: &mut [Road]) -> Result<Rest, Refusal> {
     let mut drawing = Rest::start::<Metres>(3, 2, junctions)?;
@@ -40,8 +31,8 @@ fn adds_are_refused(rt: &impl Abort, drawing: &mut Rest, roads: &mut [Road]) {
 
 #[test]
 fn refused_adds_change_nothing(rt: HostRuntime) -> Result<(), Fail> {
-    let mut junctions = [HERE; 4];
-    let mut roads = [BLANK; 3];
+    let mut junctions = [Junction::default(); 4];
+    let mut roads = [Road::default(); 3];
     let mut drawing = drawn(&mut junctions, &mut roads)?;
     let before = roads;
     assert_eq!(rt;
@@ -64,8 +55,8 @@ fn no_such_road(rt: &impl Abort, drawing: &Rest, roads: &mut [Road]) {
 
 #[test]
 fn refused_changes_of_a_road_change_nothing(rt: HostRuntime) -> Result<(), Fail> {
-    let mut junctions = [HERE; 4];
-    let mut roads = [BLANK; 3];
+    let mut junctions = [Junction::default(); 4];
+    let mut roads = [Road::default(); 3];
     let drawing = drawn(&mut junctions, &mut roads)?;
     let before = roads;
     assert_eq!(rt;
@@ -94,8 +85,8 @@ fn assigns_are_refused(rt: &impl Abort, drawing: &Rest, junctions: &mut [Junctio
 
 #[test]
 fn refused_assigns_change_nothing(rt: HostRuntime) -> Result<(), Fail> {
-    let mut junctions = [HERE; 4];
-    let mut roads = [BLANK; 3];
+    let mut junctions = [Junction::default(); 4];
+    let mut roads = [Road::default(); 3];
     let drawing = drawn(&mut junctions, &mut roads)?;
     let before = junctions;
     assigns_are_refused(&rt, &drawing, &mut junctions);
@@ -105,8 +96,8 @@ fn refused_assigns_change_nothing(rt: HostRuntime) -> Result<(), Fail> {
 
 #[test]
 fn short_tables_are_refused_first(rt: HostRuntime) -> Result<(), Fail> {
-    let mut junctions = [HERE; 4];
-    let mut roads = [BLANK; 3];
+    let mut junctions = [Junction::default(); 4];
+    let mut roads = [Road::default(); 3];
     let mut drawing = drawn(&mut junctions, &mut roads)?;
     let before = roads;
     let short = Refusal::ShortTable { needed: 2 };
@@ -127,8 +118,8 @@ fn short_tables_are_refused_first(rt: HostRuntime) -> Result<(), Fail> {
 
 #[test]
 fn accepted_edits_change_one_entry(rt: HostRuntime) -> Result<(), Fail> {
-    let mut junctions = [HERE; 4];
-    let mut roads = [BLANK; 3];
+    let mut junctions = [Junction::default(); 4];
+    let mut roads = [Road::default(); 3];
     let drawing = drawn(&mut junctions, &mut roads)?;
     let mut expected = roads;
     assert_eq!(rt; drawing.close(&mut roads, 2), Ok(()));

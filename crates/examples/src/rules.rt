@@ -3,36 +3,25 @@ use drawing::{Refusal, Table};
 
 // The word at a place, or 0 past the end.
 fn word(words: &[u64], i: u64) -> u64 {
-    match usize::try_from(i) {
-        Ok(at) => words.get(at).copied().unwrap_or(0),
-        Err(_) => 0,
-    }
+    usize::try_from(i)
+        .ok()
+        .and_then(|at| words.get(at).copied())
+        .unwrap_or(0)
 }
 
 // Whether the number lies from low to high.
 fn within(low: u64, high: u64, n: u64) -> bool {
-    low <= n && n <= high
+    (low..=high).contains(&n)
 }
 
 // Whether one of the words from `first` up to `end` is this.
 fn stands(words: &[u64], first: u64, end: u64, this: u64) -> bool {
-    for i in first..end {
-        if word(words, i) == this {
-            return true;
-        }
-    }
-    false
+    (first..end).any(|i| word(words, i) == this)
 }
 
 // How many of the words from `first` up to `end` are at most this.
 fn at_most(words: &[u64], first: u64, end: u64, this: u64) -> u64 {
-    let mut n: u64 = 0;
-    for i in first..end {
-        if word(words, i) <= this {
-            n = n.saturating_add(1);
-        }
-    }
-    n
+    (first..end).filter(|i| word(words, *i) <= this).count() as u64
 }
 
 // Words 2 to 7.
@@ -133,13 +122,10 @@ pub fn refusal(words: &[u64]) -> Option<Refusal> {
     if (words.len() as u64) < total {
         return Some(Refusal::ShortBook { words: total });
     }
-    for place in 0..total.max(8) {
-        if bad(words, place) {
-            return Some(Refusal::BadEntry {
-                table: Table::Book,
-                place,
-            });
-        }
-    }
-    None
+    (0..total.max(8))
+        .find(|place| bad(words, *place))
+        .map(|place| Refusal::BadEntry {
+            table: Table::Book,
+            place,
+        })
 }

@@ -43,14 +43,8 @@ fn edit(rt: &impl Abort, drawing: &Rest, junctions: &mut [Junction], roads: &mut
 
 #[test]
 fn drawn_and_edited(rt: HostRuntime) -> Result<(), Fail> {
-    let unused = Road {
-        first: 0,
-        second: 0,
-        value: 0,
-        mark: Mark::Closed,
-    };
-    let mut junctions = [Junction { district: 0 }; 6];
-    let mut roads = [unused; 6];
+    let mut junctions = [Junction::default(); 6];
+    let mut roads = [Road::default(); 6];
     let drawing = draw(&mut junctions, &mut roads)?;
     let mut expected = roads;
     edit(&rt, &drawing, &mut junctions, &mut roads);

@@ -13,6 +13,12 @@ pub record Scale : Type 0 where
   pub better : ℕ → ℕ → Bool
   pub join : ℕ → ℕ → ℕ
 
+-- the tag, the start and the none of a measure are these three numbers
+pub record HasConstants (s : Scale) (a b c : ℕ) : Type 0 where
+  pub tag : a ≡ s.tag
+  pub start : b ≡ s.start
+  pub none : c ≡ s.none
+
 -- w is one of the measure's values
 abbrev pub Value : Scale → ℕ → Type 0
 Value s w = s.value w ≡ true

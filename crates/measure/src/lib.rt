@@ -1,8 +1,8 @@
 // What a measure of roads is, the laws that every measure keeps, and the two measures: metres and clearance.
 #![tactic(auto)]
 
-ghost use Rattle.std.specs.Prelude.{◌≡◌};
-ghost use Rattle.measure.specs.Scale.{Scale, Laws, counts};
+ghost use Rattle.std.specs.Prelude.{◌≡◌, ℕ, refl};
+ghost use Rattle.measure.specs.Scale.{Scale, HasConstants, Laws, counts};
 ghost use Rattle.measure.specs.Measures.{metres, clearance, TagsDiffer};
 ghost use Rattle.measure.specs.Pairs.{ClearanceThenMetresIsNoMeasure};
 ghost use Rattle.measure.specs.Laws.{metres_laws, clearance_laws};
@@ -18,17 +18,15 @@ pub trait Measure {
     // the value that says that there is no walk
     const NONE: u64;
 
+    // The three constants in clauses.
+    ghost TAG: { ℕ };
+
+    ghost START: { ℕ };
+
+    ghost NONE: { ℕ };
+
+    // The measure as mathematics has it.
     ghost scale: { Scale };
-
-    // The three constants again, as calls that promise what the scale says: of a constant alone generic code knows nothing.
-    fn tag_word() -> u64
-        ensures { result ≡ scale.tag };
-
-    fn start_word() -> u64
-        ensures { result ≡ scale.start };
-
-    fn none_word() -> u64
-        ensures { result ≡ scale.none };
 
     // Whether the word is a value of this measure.
     fn is_value(word: u64) -> bool
@@ -48,7 +46,16 @@ pub trait Measure {
 
     // What the word counts as: itself if it is a value, else none.
     fn counted(word: u64) -> u64
-        ensures { result ≡ counts scale word };
+        ensures { result ≡ counts scale word }
+    {
+        if Self::is_value(word) {
+            word
+        } else {
+            Self::NONE
+        }
+    }
+
+    ghost constants: { HasConstants scale TAG START NONE };
 
     ghost shows: { Laws scale };
 }
@@ -63,32 +70,24 @@ impl Measure for Metres {
 
     const NONE: u64 = 4_294_967_295;
 
+    ghost TAG = { metres.tag };
+
+    ghost START = { metres.start };
+
+    ghost NONE = { metres.none };
+
     ghost scale = { metres };
 
+    ghost constants = { record { tag = refl; start = refl; none = refl } };
+
     ghost shows = { metres_laws };
-
-    fn tag_word() -> u64 {
-        Self::TAG
-    }
-
-    fn start_word() -> u64 {
-        Self::START
-    }
-
-    fn none_word() -> u64 {
-        Self::NONE
-    }
 
     fn is_value(word: u64) -> bool {
         word <= Self::NONE
     }
 
     fn is_lawful(word: u64) -> bool {
-        1 <= word && word <= 1_000_000
-    }
-
-    fn counted(word: u64) -> u64 {
-        word.min(Self::NONE)
+        (1..=1_000_000).contains(&word)
     }
 
     fn better(a: u64, b: u64) -> bool {
@@ -110,36 +109,24 @@ impl Measure for Clearance {
 
     const NONE: u64 = 0;
 
+    ghost TAG = { clearance.tag };
+
+    ghost START = { clearance.start };
+
+    ghost NONE = { clearance.none };
+
     ghost scale = { clearance };
 
+    ghost constants = { record { tag = refl; start = refl; none = refl } };
+
     ghost shows = { clearance_laws };
-
-    fn tag_word() -> u64 {
-        Self::TAG
-    }
-
-    fn start_word() -> u64 {
-        Self::START
-    }
-
-    fn none_word() -> u64 {
-        Self::NONE
-    }
 
     fn is_value(word: u64) -> bool {
         word <= Self::START
     }
 
     fn is_lawful(word: u64) -> bool {
-        1 <= word && word <= 2_000
-    }
-
-    fn counted(word: u64) -> u64 {
-        if Self::is_value(word) {
-            word
-        } else {
-            Self::NONE
-        }
+        (1..=2_000).contains(&word)
     }
 
     fn better(a: u64, b: u64) -> bool {

@@ -2,11 +2,10 @@
 #![tactic(auto)]
 
 use anyhow::anyhow;
-use drawing::{Junction, Mark, Refusal, Road};
+use drawing::{Junction, Refusal, Road};
 use measure::Metres;
 use roadtext::{Reading, Unread, read};
 use std::alloc::Global;
-use std::io;
 use std::io::Read;
 
 // The entries of each table.
@@ -15,26 +14,17 @@ const ENTRIES: usize = 8_192;
 // One byte more than a text may have: so much is ever held.
 const HELD: usize = 65_537;
 
-// Reads standard input up to its end, or until one byte more is held than a text may have.
-fn hold(rt: &HostRuntime, text: &mut [u8]) -> io::Result<usize> {
-    let mut held: usize = 0;
-    for _ in 0..HELD {
-        if held >= text.len() {
-            return Ok(held);
-        }
-        let more = rt.stdin().read(&mut text[held..])?;
-        if more == 0 {
-            return Ok(held);
-        }
-        held += more;
-    }
-    Ok(held)
+// Standard input up to its end, or one byte more than a text may have.
+fn hold(rt: &HostRuntime, heap: Global) -> anyhow::Result<Vec<u8>> {
+    let mut text = Vec::with_capacity(heap, HELD)?;
+    rt.stdin().take(HELD as u64).read_to_end(&mut text)?;
+    Ok(text)
 }
 
-// How many districts have a junction.
-fn districts_in_use(junctions: &[Junction]) -> u32 {
+// How many districts have one of the first n junctions.
+fn districts_in_use(junctions: &[Junction], n: u64) -> u32 {
     let mut used: u64 = 0;
-    for junction in junctions {
+    for junction in junctions.iter().take(n as usize) {
         if junction.district < 64 {
             used |= 1 << junction.district;
         }
@@ -51,7 +41,7 @@ fn state(
 ) -> anyhow::Result<()> {
     let n = reading.drawing.junctions();
     let k = reading.drawing.roads();
-    let used = districts_in_use(&junctions[0..(n as usize).min(junctions.len())]);
+    let used = districts_in_use(junctions, n);
     let asks = reading.asks.len();
     println!(rt; "junctions {n}")?;
     println!(rt; "roads {k}")?;
@@ -71,17 +61,9 @@ fn refuse(rt: &impl Print, refusal: Refusal) -> anyhow::Result<()> {
 }
 
 fn run(rt: &HostRuntime, heap: Global) -> anyhow::Result<()> {
-    let mut text = vec![in heap; 0u8; HELD]?;
-    let held = hold(rt, &mut text)?;
-    text.truncate(held);
-    let mut junctions = vec![in heap; Junction { district: 0 }; ENTRIES]?;
-    let unused = Road {
-        first: 0,
-        second: 0,
-        value: 0,
-        mark: Mark::Closed,
-    };
-    let mut roads = vec![in heap; unused; ENTRIES]?;
+    let text = hold(rt, heap)?;
+    let mut junctions = vec![in heap; Junction::default(); ENTRIES]?;
+    let mut roads = vec![in heap; Road::default(); ENTRIES]?;
     match read::<Metres>(heap, &text, &mut junctions, &mut roads) {
         Ok(reading) => state(rt, &reading, &junctions, &roads),
         Err(Unread::Refused(refusal)) => refuse(rt, refusal),
