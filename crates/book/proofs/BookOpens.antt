@@ -9,9 +9,6 @@ use Rattle.book.specs.declared.counts.Counts.{Counts}
 use Rattle.book.specs.Layout.{counts_of}
 use Rattle.book.specs.Bad.{parts}
 use Rattle.book.specs.Found.{FirstIn}
-use Rattle.book.specs.Ready.{GoodOffsets}
-use Rattle.book.specs.declared.names.Names.{Names}
-use Rattle.book.proofs.IsBook.{good_offsets}
 use Rattle.book.specs.Opened.{open_checks, IsBook, OpensExactlyBooks}
 
 -- counts that were read passed the checks, and are those that are wanted
@@ -32,6 +29,3 @@ module _ (s : Scale) (ws : List ℕ) (c : Counts) (read : Ends (verdict (open_ch
   pub opened_rightly : FirstIn (parts s ws c) None → IsBook s ws
   opened_rightly h =
       record { checked = checked; none_bad = subst (λ counts. FirstIn (parts s ws counts) None) counted h }
-
-  pub no_bad_offset : FirstIn (parts s ws c) None → (names : Names) → GoodOffsets ws c names
-  no_bad_offset h names = rw counted (good_offsets s ws (opened_rightly h) names)

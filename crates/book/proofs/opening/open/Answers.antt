@@ -1,6 +1,7 @@
-use Rattle.std.proofs.Common.{Some, None, refl}
+use Rattle.std.proofs.Common.{Some, None, refl, subst}
+use Rattle.book.specs.Sections.{HasSections}
 use Rattle.book.proofs.BookParts.{book_by_counts, book_by_sections}
-use Rattle.book.proofs.BookOpens.{counted, refused_rightly, opened_rightly, no_bad_offset}
+use Rattle.book.proofs.BookOpens.{counted, refused_rightly, opened_rightly}
 use Rattle.book.proofs.opening.open.Goals as goal
 
 pub returns-in-Some : goal.returns-in-Some
@@ -21,16 +22,6 @@ returns-in-Some-first_bad g c =
     (refused_rightly s ws counts c.in_ok-counts.ensures place
     (book_by_sections s ws counts (Some place) c.in_default.ensures c.in-Some-first_bad.ensures))
 
-pub invariant_of-result : goal.invariant_of-result
-invariant_of-result g c =
-    let s = g.M.Measure.scale in
-    let ws = c.args.words.now in
-    let counts = c.in_ok-counts.counts in
-    record {
-      offsets = no_bad_offset s ws counts c.in_ok-counts.ensures
-          (book_by_sections s ws counts None c.in_default.ensures c.in_default-first_bad.ensures);
-    }
-
 pub returns : goal.returns
 returns g c =
     let s = g.M.Measure.scale in
@@ -38,5 +29,6 @@ returns g c =
     let counts = c.in_ok-counts.counts in (
       opened_rightly s ws counts c.in_ok-counts.ensures
           (book_by_sections s ws counts None c.in_default.ensures c.in_default-first_bad.ensures),
-      record { words = refl; counts = counted s ws counts c.in_ok-counts.ensures },
+      let same = counted s ws counts c.in_ok-counts.ensures in
+          record { words = refl; counts = same; sections = subst (λ k. HasSections k c.sections-sections.result) same c.sections-sections.ensures },
     )

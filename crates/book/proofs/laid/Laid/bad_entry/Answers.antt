@@ -1,8 +1,10 @@
-use Rattle.std.proofs.Common.{rules, ◌*◌, ◌<◌}
+use Rattle.std.proofs.Common.{rules, ap, ◌∙◌, ◌*◌, ◌<◌}
 use Rattle.book.specs.Bad.{part, entries_at, entry_count, bad_entry}
 use Rattle.book.proofs.Parts.{first_of_part}
 use Rattle.book.proofs.RowsSearched.{rows_searched}
 use Rattle.book.proofs.Searches.{is_below}
+use Rattle.book.specs.declared.span.Span.{Span}
+use Rattle.book.proofs.RowAt.{spans_entries}
 use Rattle.book.proofs.SectionWords.{entries_size}
 use Rattle.book.proofs.laid.Laid.bad_entry.Goals as goal
 
@@ -21,7 +23,7 @@ returns g c =
     let counts = c.args.self.now.counts in
     let test = bad_entry g.M.Measure.scale c.args.self.now.words.now counts c.args.names in
     first_of_part (part (entries_at counts c.args.names) test) c.entries-entries.result.first (2 * entry_count counts c.args.names)
-    c.entries-entries.ensures.first (entries_size counts c.args.names) _ _
+    (ap (λ (p : Span). p.first) c.entries-entries.ensures ∙ (spans_entries counts c.args.self.now.sections c.args.names c.args.self.now.laid).first) (entries_size counts c.args.names) _ _
     (rows_searched g.M.Measure.scale c.args.self.now.words.now counts c.args.names _ c.new.result c.find_map.result c.requires
     c.new.ensures.start c.new.ensures.end c.new.ensures.exhausted (λ v y q l m called. search rules)
     (λ a y q called. search rules) c.find_map.ensures.runs)

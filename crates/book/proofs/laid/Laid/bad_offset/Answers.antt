@@ -1,7 +1,9 @@
-use Rattle.std.proofs.Common.{rules, ◌+◌}
+use Rattle.std.proofs.Common.{rules, ap, ◌∙◌, ◌+◌}
 use Rattle.book.specs.Bad.{part, offsets_at, bad_offset}
 use Rattle.book.proofs.Parts.{first_of_part}
 use Rattle.book.proofs.Ranges.{goes_up_to, found_first}
+use Rattle.book.specs.declared.span.Span.{Span}
+use Rattle.book.proofs.RowAt.{spans_offsets}
 use Rattle.book.proofs.SectionWords.{offsets_size}
 use Rattle.book.proofs.laid.Laid.bad_offset.Goals as goal
 
@@ -12,7 +14,7 @@ returns c =
     let test = bad_offset c.args.self.now.words.now counts names in
     let run = c.find.ensures.runs in
     first_of_part (part (offsets_at counts names) test) c.offsets-offsets.result.first (counts.junctions + 1)
-    c.offsets-offsets.ensures.first (offsets_size counts names) _ _
+    (ap (λ (p : Span). p.first) c.offsets-offsets.ensures ∙ (spans_offsets counts c.args.self.now.sections names c.args.self.now.laid).first) (offsets_size counts names) _ _
     (found_first run.0 _ 0 (counts.junctions + 1) test
     (goes_up_to run.0 c.new.result 0 counts.junctions run.1 c.new.ensures.start c.new.ensures.end c.new.ensures.exhausted)
     (λ a b q k. search rules) (λ x b q k. search rules) c.find.result run.2)
