@@ -1,5 +1,7 @@
 -- What the functions that look for the first bad word answer. Assumes nothing.
 use Rattle.std.specs.Prelude.{◌≡◌, ℕ, ◌+◌, ◌*◌, ◌<◌, ◌≤◌, Bool, true, false, cond, List, [], ◌∷◌, length, Some, None, Option, slice_index_or}
+use Rattle.drawing.specs.Marked.{is_marked}
+use Rattle.drawing.specs.declared.marks.Marks.{Marks}
 use Rattle.book.specs.declared.counts.Counts.{Counts}
 use Rattle.book.specs.Layout.{Section}
 use Rattle.book.specs.Bad.{among, Part, part, bad_in}
@@ -26,6 +28,5 @@ pub record Few (c : Counts) : Type 0 where
   pub district_entries : c.district_entries ≤ c.junctions * c.junctions
 
 -- the marks say, of each number to 4,096, whether it is one of the borders so far
-pub record Marks (seen : List Bool) (borders : List ℕ) : Type 0 where
-  pub all : length seen ≡ 4097
-  pub each : (b : ℕ) → b < 4097 → slice_index_or seen b false ≡ among b borders
+abbrev pub MarkTheBorders : Marks → List ℕ → Type 0
+MarkTheBorders seen borders = (b : ℕ) → b ≤ 4096 → is_marked seen b ≡ among b borders

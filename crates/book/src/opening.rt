@@ -1,7 +1,7 @@
 // Opening a book.
 ghost use Rattle.std.specs.Prelude.{◌≡◌, ◌+◌, ◌<◌, ◌≤◌, [], ◌++◌, length, take};
 ghost use Rattle.book.specs.Bad.{count_faults, bad_district, bad_border, bad_offset, offsets_at, place_parts, row_parts};
-ghost use Rattle.book.specs.Found.{first_true, FirstIn, FirstInPart, Few, Marks};
+ghost use Rattle.book.specs.Found.{first_true, FirstIn, FirstInPart, Few, MarkTheBorders};
 ghost use Rattle.book.specs.Layout.{counts_of, total, words_in, places_at, order_at};
 ghost use Rattle.book.specs.Opened.{open_checks, OpensExactlyBooks};
 ghost use Rattle.book.specs.declared.names.Names.TheVariants.{Ranks, Hubs};
@@ -12,7 +12,7 @@ ghost use Rattle.drawing.specs.Outcomes.{verdict, Ends};
 use super::laid::Laid;
 use super::names::Names;
 use super::{Book, Counts};
-use drawing::{MOST_DISTRICTS, MOST_JUNCTIONS, Refusal, Table};
+use drawing::{MOST_DISTRICTS, MOST_JUNCTIONS, Marks, Refusal, Table};
 use measure::Measure;
 
 // The counts that the words begin with, if these have what they must have before any of them can be bad: the book's number, the
@@ -85,13 +85,6 @@ impl Counts {
     }
 }
 
-// Marks of which none is set.
-fn no_marks() -> [bool; 4_097]
-    ensures { Marks result [] }
-{
-    [false; 4_097]
-}
-
 impl<'a> Laid<'a> {
     // Whether the district of junction j + 1 is bad.
     fn is_bad_district(&self, j: u64) -> bool
@@ -112,12 +105,12 @@ impl<'a> Laid<'a> {
     }
 
     // Whether the border of rank j is bad, where the borders before it are marked.
-    fn is_bad_border(&self, seen: &[bool], j: u64) -> bool
-        requires { (j < self.now.counts.borders) × (Marks seen.now (take j (words_in (order_at self.now.counts) self.now.words.now))) }
+    fn is_bad_border(&self, seen: &Marks, j: u64) -> bool
+        requires { (j < self.now.counts.borders) × (MarkTheBorders seen.now (take j (words_in (order_at self.now.counts) self.now.words.now))) }
         ensures { result ≡ bad_border self.now.words.now self.now.counts j }
     {
         let border = self.border(j);
-        border < 1 || border > self.counts.junctions || seen[border as usize]
+        border < 1 || border > self.counts.junctions || seen.has(border)
     }
 
     // The place of the first bad border.
@@ -125,13 +118,13 @@ impl<'a> Laid<'a> {
         ensures { FirstInPart (order_at self.now.counts) (bad_border self.now.words.now self.now.counts) result }
     {
         let order = self.sections.order;
-        let mut seen = no_marks();
+        let mut seen = Marks::new();
         // A loop: each round marks a border too, and a `find` whose closure does that would be no plainer.
         for j in 0..self.counts.borders {
             if self.is_bad_border(&seen, j) {
                 return Some(order.place(j));
             }
-            seen[self.border(j) as usize] = true;
+            seen.mark(self.border(j));
         }
         None
     }

@@ -11,6 +11,6 @@ loop-j-preserved c =
     let j = c.loop-j.j in
     let good : bad_border ws counts j ≡ false = sym {b = bad_border ws counts j} c.if-is_bad_border.ensures in (
       one_word_more (bad_border ws counts) 0 j c.loop-j.invariant.0 good,
-      border_marked ws counts c.args.self.now.ready c.loop-j.seen j c.border.result c.loop-j-test.true c.border.ensures good
-          c.loop-j.invariant.1,
+      border_marked ws counts c.args.self.now.ready c.loop-j.seen c.mark.new.self j c.border.result c.loop-j-test.true c.border.ensures
+          c.mark.ensures c.loop-j.invariant.1,
     )
