@@ -26,7 +26,10 @@ pub fn join_rows<M: Measure>(first: &[u64], second: &[u64]) -> Option<(u64, u64)
     let mut left = Cursor { rest: first };
     let mut right = Cursor { rest: second };
     let mut best = None;
-    while let (Some((name, value)), Some((other, worth))) = (left.entry(), right.entry()) {
+    while let Some((name, value)) = left.entry() {
+        let Some((other, worth)) = right.entry() else {
+            return best;
+        };
         if name < other {
             left.step();
         } else if other < name {
