@@ -1,4 +1,4 @@
-// The counts of a book, and the sections that they give.
+// The counts of a book.
 
 // How many junctions, districts, borders, border entries, district entries and words a book says that it has.
 #[derive(Clone, Copy, PartialEq, Eq, Debug)]
