@@ -11,23 +11,45 @@ table_number_lem Junctions = 1
 table_number_lem Roads = 2
 table_number_lem Book = 3
 
+-- the first number of a refusal: which it is
+abbrev pub first_number : Refusal → ℕ
+first_number OtherMeasure = 1
+first_number BadCount = 2
+first_number (ShortTable needed) = 3
+first_number NoJunction = 4
+first_number NoRoad = 5
+first_number NoDistrict = 5
+first_number EndsAlike = 6
+first_number NotLawful = 7
+first_number RoadsFull = 8
+first_number NothingLeft = 9
+first_number WorkLeft = 9
+first_number (ShortBook words) = 10
+first_number NoBook = 11
+first_number (BadEntry table place) = 12
+first_number (BadText line field cause) = 13
+
+-- the numbers that it carries
+abbrev pub carried : Refusal → List ℕ
+carried OtherMeasure = []
+carried BadCount = []
+carried (ShortTable needed) = needed ∷ []
+carried NoJunction = []
+carried NoRoad = []
+carried NoDistrict = []
+carried EndsAlike = []
+carried NotLawful = []
+carried RoadsFull = []
+carried NothingLeft = []
+carried WorkLeft = []
+carried (ShortBook words) = words ∷ []
+carried NoBook = []
+carried (BadEntry table place) = table_number_lem table ∷ place ∷ []
+carried (BadText line field cause) = line ∷ field ∷ cause ∷ []
+
 -- the numbers of a refusal: which it is, and then what it carries
 abbrev pub numbers : Refusal → List ℕ
-numbers OtherMeasure = 1 ∷ []
-numbers BadCount = 2 ∷ []
-numbers (ShortTable needed) = 3 ∷ needed ∷ []
-numbers NoJunction = 4 ∷ []
-numbers NoRoad = 5 ∷ []
-numbers NoDistrict = 5 ∷ []
-numbers EndsAlike = 6 ∷ []
-numbers NotLawful = 7 ∷ []
-numbers RoadsFull = 8 ∷ []
-numbers NothingLeft = 9 ∷ []
-numbers WorkLeft = 9 ∷ []
-numbers (ShortBook words) = 10 ∷ words ∷ []
-numbers NoBook = 11 ∷ []
-numbers (BadEntry table place) = 12 ∷ table_number_lem table ∷ place ∷ []
-numbers (BadText line field cause) = 13 ∷ line ∷ field ∷ cause ∷ []
+numbers r = first_number r ∷ carried r
 
 -- numbers in decimal digits, with a space between two
 abbrev pub spaced : List ℕ → List ℕ

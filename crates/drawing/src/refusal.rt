@@ -1,6 +1,6 @@
 // Why a call was refused.
 ghost use Rattle.std.specs.Prelude.{◌≡◌, Some};
-ghost use Rattle.drawing.specs.Refusals.{table_number_lem, written};
+ghost use Rattle.drawing.specs.Refusals.{first_number, table_number_lem, written};
 
 use std::fmt;
 
@@ -55,6 +55,29 @@ fn table_number(table: Table) -> u64
         Table::Junctions => 1,
         Table::Roads => 2,
         Table::Book => 3,
+    }
+}
+
+impl Refusal {
+    // The first of its numbers: which refusal it is.
+    pub fn number(&self) -> u64
+        ensures { result ≡ first_number self.now }
+    {
+        match *self {
+            Refusal::OtherMeasure => 1,
+            Refusal::BadCount => 2,
+            Refusal::ShortTable { .. } => 3,
+            Refusal::NoJunction => 4,
+            Refusal::NoRoad | Refusal::NoDistrict => 5,
+            Refusal::EndsAlike => 6,
+            Refusal::NotLawful => 7,
+            Refusal::RoadsFull => 8,
+            Refusal::NothingLeft | Refusal::WorkLeft => 9,
+            Refusal::ShortBook { .. } => 10,
+            Refusal::NoBook => 11,
+            Refusal::BadEntry { .. } => 12,
+            Refusal::BadText { .. } => 13,
+        }
     }
 }
 
