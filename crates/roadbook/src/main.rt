@@ -2,10 +2,11 @@
 #![tactic(auto)]
 
 use anyhow::anyhow;
-use drawing::{Junction, Mark, Refusal, Road};
+use drawing::{Junction, Mark, Road};
 use measure::Metres;
 use roadtext::{Reading, Unread, read};
 use std::alloc::Global;
+use std::fmt;
 use std::io;
 use std::io::Read;
 
@@ -64,9 +65,9 @@ fn state(
     Ok(())
 }
 
-// Prints a refusal, and nothing else; the program then ends with status 1.
-fn refuse(rt: &impl Print, refusal: Refusal) -> anyhow::Result<()> {
-    println!(rt; "refused {refusal}")?;
+// Prints the numbers of a refusal or of a fault, and nothing else; the program then ends with status 1.
+fn refuse(rt: &impl Print, numbers: impl fmt::Display) -> anyhow::Result<()> {
+    println!(rt; "refused {numbers}")?;
     Err(anyhow!("refused"))
 }
 
@@ -84,7 +85,7 @@ fn run(rt: &HostRuntime, heap: Global) -> anyhow::Result<()> {
     let mut roads = vec![in heap; unused; ENTRIES]?;
     match read::<Metres>(heap, &text, &mut junctions, &mut roads) {
         Ok(reading) => state(rt, &reading, &junctions, &roads),
-        Err(Unread::Refused(refusal)) => refuse(rt, refusal),
+        Err(Unread::Refused(fault)) => refuse(rt, fault),
         Err(Unread::Memory) => Err(anyhow!("no memory")),
     }
 }

@@ -1,5 +1,5 @@
 -- What has been drawn so far, one event more, and that none is refused. Assumes nothing.
-use Rattle.std.proofs.Common.{◌≡◌, ℕ, ◌+◌, ◌≤◌, false, cond, not, ◌||◌, ltb, leb, List, [], ◌∷◌, ◌++◌, length, set, Ok, Err, Result, sym, refl, ap, ◌∙◌, subst, arith, length-append, eq-eqb}
+use Rattle.std.proofs.Common.{◌≡◌, ℕ, ◌+◌, ◌≤◌, false, cond, not, ◌||◌, ltb, leb, List, [], ◌∷◌, ◌++◌, length, set, Some, None, Option, Ok, Err, Result, sym, refl, ap, ◌∙◌, subst, arith, length-append, eq-eqb}
 use Rattle.std.specs.List.{AllByRecursion}
 use Rattle.std.proofs.lemmas.Bool.Decides.{nat_tests}
 use Rattle.measure.specs.Scale.{Scale}
@@ -12,7 +12,7 @@ use Rattle.drawing.specs.declared.tables.Road.{Road}
 use Rattle.roadtext.specs.declared.parts.Arc.{Arc}
 use Rattle.roadtext.specs.declared.parts.Two.{Two}
 use Rattle.roadtext.specs.declared.steps.Event.{Event}
-use Rattle.roadtext.specs.declared.steps.Event.TheVariants.{Nothing, Road as RoadRead, Move, Ask}
+use Rattle.roadtext.specs.declared.steps.Event.TheVariants.{Road as RoadRead, Move, Ask}
 use Rattle.roadtext.specs.declared.steps.Progress.{Progress}
 use Rattle.roadtext.specs.Drawn.{Leaves, DrawsEvent}
 use Rattle.roadtext.specs.Read.{AddsAll, MovesAll}
@@ -83,11 +83,11 @@ module _ (s : Scale) (n : ℕ) (fresh : Rest) (cleared : List Junction) (blank :
       (subst (λ q. SoFar s n fresh cleared blank roads moves d junctions q) (sym h.2) far))
 
   -- one event more
-  pub event_far : (ev : Event) (e : Rest) (then : List Junction) (after : List Road) → DrawsEvent s d junctions table ev (Ok tt) e then after
+  pub event_far : (ev : Option Event) (e : Rest) (then : List Junction) (after : List Road) → DrawsEvent s d junctions table ev (Ok tt) e then after
       → SoFar s n fresh cleared blank (with_road ev roads) (with_move ev moves) e then after
-  event_far Nothing e then after h = leaves_far e then after h
-  event_far (Ask q) e then after h = leaves_far e then after h
-  event_far (RoadRead a) e then after h =
+  event_far None e then after h = leaves_far e then after h
+  event_far (Some (Ask q)) e then after h = leaves_far e then after h
+  event_far (Some (RoadRead a)) e then after h =
       let number = h.0.0 in
       let more = ends_ok (verdict (add_checks s d table a.from a.to a.worth)) number ((e ≡ d) × (after ≡ table)) (λ k. (k ≡ d.roads + 1) × OneRoadMore d e × (after ≡ set table d.roads (open_road a.from a.to a.worth))) h.0.1 in
       record {
@@ -98,7 +98,7 @@ module _ (s : Scale) (n : ℕ) (fresh : Rest) (cleared : List Junction) (blank :
         adds = adds_more s fresh blank roads d table a number e after far.adds h.0.1;
         moved = subst (λ q. MovesAll e cleared moves q) (sym h.1) (moves_alike d e cleared moves junctions more.1.junctions more.1.districts far.moved);
       }
-  event_far (Move m) e then after h =
+  event_far (Some (Move m)) e then after h =
       subst (λ q. SoFar s n fresh cleared blank roads (moves ++ (m ∷ [])) q then after) (sym h.1)
       (subst (λ q. SoFar s n fresh cleared blank roads (moves ++ (m ∷ [])) d then q) (sym h.2)
       (record {
@@ -111,11 +111,11 @@ module _ (s : Scale) (n : ℕ) (fresh : Rest) (cleared : List Junction) (blank :
       }))
 
   -- no event of a text without fault is refused
-  pub never_refused : (p : Progress) (ev : Event) → Drawable s p ev → (Begun p.stage → p.junctions ≡ n) → p.roads ≡ length roads → p.records ≡ length table → n ≤ length junctions
+  pub never_refused : (p : Progress) (ev : Option Event) → Drawable s p ev → (Begun p.stage → p.junctions ≡ n) → p.roads ≡ length roads → p.room.records ≡ length table → n ≤ length junctions
       → (x : Refusal) (e : Rest) (then : List Junction) (after : List Road) → DrawsEvent s d junctions table ev (Err x) e then after → ⊥
-  never_refused p Nothing can same count size long x e then after h = h
-  never_refused p (Ask q) can same count size long x e then after h = h
-  never_refused p (RoadRead a) can same count size long x e then after h =
+  never_refused p None can same count size long x e then after h = h
+  never_refused p (Some (Ask q)) can same count size long x e then after h = h
+  never_refused p (Some (RoadRead a)) can same count size long x e then after h =
       let j : d.junctions ≡ p.junctions = far.junctions_are ∙ sym (same can.begun) in
       let full : leb 16384 d.roads || leb (length table) d.roads ≡ false =
       ap (λ k. leb 16384 k || leb (length table) k) (far.roads_are ∙ sym count) ∙ (ap (λ k. leb 16384 p.roads || leb k p.roads) (sym size) ∙ can.room_left) in
@@ -133,7 +133,7 @@ module _ (s : Scale) (n : ℕ) (fresh : Rest) (cleared : List Junction) (blank :
         ),
       )
       h.0
-  never_refused p (Move m) can same count size long x e then after h =
+  never_refused p (Some (Move m)) can same count size long x e then after h =
       let j : d.junctions ≡ p.junctions = far.junctions_are ∙ sym (same can.begun) in
       let fits : d.junctions ≤ length junctions = omega (arith, far.junctions_are) in
       ends_accepted (assign_checks d junctions m.left m.right) x (then ≡ junctions) (λ _. then ≡ with_entry (in_district 0) (λ _. in_district m.right) m.left junctions) (

@@ -2,6 +2,7 @@
 use Rattle.std.proofs.Common.{◌≡◌, ℕ, Bool, true, false, cond, List, [], ◌∷◌, ◌++◌, IsErrAnd, IfOk, Ok, Err, Result, sym, refl, ap, ◌∙◌, arith}
 use Rattle.std.specs.List.{AllByRecursion}
 use Rattle.std.proofs.lemmas.Result.{err_from_is_err_and}
+use Rattle.roadtext.specs.declared.fault.Cause.{Cause}
 use Rattle.roadtext.specs.declared.parts.LineFault.{LineFault}
 use Rattle.roadtext.specs.Lines.{Check, check, passed}
 
@@ -51,10 +52,10 @@ pub passed_on : {B : Type 0} (r : Result B LineFault) (f : LineFault) → IsErrA
 passed_on r f h = let p = err_from_is_err_and r h in p.1 ∙ ap Err p.2
 
 -- a check that fails, and one that passes
-pub check_fails : {B : Type 0} (n x : ℕ) (b : Bool) (cs : List Check) (z : B) → b ≡ true → Err (record { field = n; cause = x }) ≡ passed (check n x b ∷ cs) z
+pub check_fails : {B : Type 0} (n : ℕ) (x : Cause) (b : Bool) (cs : List Check) (z : B) → b ≡ true → Err (record { field = n; cause = x }) ≡ passed (check n x b ∷ cs) z
 check_fails n x b cs z e = sym (ap (λ v. passed (check n x v ∷ cs) z) e)
 
-pub check_passes : {A : Type 0} (n x : ℕ) (b : Bool) (z : A) → b ≡ false → Ok z ≡ passed (check n x b ∷ []) z
+pub check_passes : {A : Type 0} (n : ℕ) (x : Cause) (b : Bool) (z : A) → b ≡ false → Ok z ≡ passed (check n x b ∷ []) z
 check_passes n x b z e = sym (ap (λ v. passed (check n x v ∷ []) z) e)
 
 -- what is shown of the value by the checks that have passed

@@ -1,5 +1,5 @@
 -- A text without fault, drawn line by line: no line is refused, and at the end all of it is drawn. Assumes nothing.
-use Rattle.std.proofs.Common.{◌≡◌, ℕ, ◌≤◌, true, false, cond, ltb, List, [], length, Ok, Err, sym, refl, ap, ◌∙◌, subst, arith}
+use Rattle.std.proofs.Common.{◌≡◌, ℕ, ◌≤◌, true, false, cond, ltb, List, [], length, Ok, Err, Result, MatchResult, sym, refl, ap, ◌∙◌, subst, arith}
 use Rattle.std.proofs.lemmas.Bool.Decides.{nat_tests}
 use Rattle.measure.specs.Scale.{Scale}
 use Rattle.drawing.specs.Outcomes.{verdict}
@@ -8,12 +8,15 @@ use Rattle.drawing.specs.declared.refusal.Refusal.{Refusal}
 use Rattle.drawing.specs.declared.rest.Rest.{Rest}
 use Rattle.drawing.specs.declared.tables.Junction.{Junction}
 use Rattle.drawing.specs.declared.tables.Road.{Road}
+use Rattle.roadtext.specs.declared.fault.Cause.TheVariants.{TooLong}
+use Rattle.roadtext.specs.declared.parts.Room.{Room}
 use Rattle.roadtext.specs.declared.steps.Progress.{Progress}
 use Rattle.roadtext.specs.declared.steps.Step.{Step}
-use Rattle.roadtext.specs.Drawn.{DrawsEvent}
+use Rattle.roadtext.specs.Drawn.{DrawsEvent, DrawsText}
 use Rattle.roadtext.specs.Read.{Draws, AddsAll, MovesAll, room_of}
-use Rattle.roadtext.specs.Reading.{State, Room, fault, nothing_read, read_lines, read_text}
-use Rattle.roadtext.specs.Lines.{too_long}
+use Rattle.roadtext.specs.declared.fault.Fault.{Fault}
+use Rattle.roadtext.specs.Checked.{junctions_read}
+use Rattle.roadtext.specs.Reading.{State, fault, nothing_read, read_lines, read_text}
 use Rattle.roadtext.specs.Steps.{Steps, Startable, Begun}
 use Rattle.roadtext.specs.Text.{lines}
 use Rattle.roadtext.proofs.Added.{SoFar, ends_ok, never_refused}
@@ -24,7 +27,7 @@ use Rattle.roadtext.proofs.Stays.{ended_ok, junctions_stay}
 pub lines_of_text : (s : Scale) (room : Room) (text : List ℕ) (st : State) → read_text s room text ≡ Ok st → read_lines s room 1 (lines text) nothing_read ≡ Ok st
 lines_of_text s room text st h =
     elim (ltb 65536 (length text))
-    as (λ b. cond b (Err (fault 0 0 too_long)) (read_lines s room 1 (lines text) nothing_read) ≡ Ok st → read_lines s room 1 (lines text) nothing_read ≡ Ok st)
+    as (λ b. cond b (Err (fault 0 0 TooLong)) (read_lines s room 1 (lines text) nothing_read) ≡ Ok st → read_lines s room 1 (lines text) nothing_read ≡ Ok st)
     [ true ↦ λ e. absurd (let q : ◌≡◌ {A = ℕ} 0 1 = cc in omega arith) | false ↦ λ e. e ]
     h
 
@@ -55,7 +58,7 @@ module _ (s : Scale) (text : List ℕ) (n : ℕ) (blank : List Junction) (unused
       never_refused s n fresh cleared unused st.roads st.moves d junctions table far p t.event steps.draws
       (λ b. sym (ap (λ q. q.junctions) same) ∙ (sym (junctions_stay s (room_of blank unused) l (lines rest) st end (subst (λ q. Begun q.stage) (sym same) b) whole) ∙ count))
       (sym (ap (λ q. q.roads) same))
-      (sym (ap (λ q. q.records) same) ∙ sym size)
+      (sym (ap (λ q. q.room.records) same) ∙ sym size)
       fits
       x
       e
@@ -78,3 +81,13 @@ module _ (s : Scale) (text : List ℕ) (n : ℕ) (blank : List Junction) (unused
         subst (λ q. AddsAll s fresh unused q.roads d table) last far.adds,
         subst (λ q. MovesAll d cleared q.moves junctions) last far.moved,
       )
+
+-- the number of junctions that a text without fault has been found to have, and its drawing, which is not refused
+pub read_in_full : (s : Scale) (text : List ℕ) (n : ℕ) (blank : List Junction) (unused : List Road) (r : Result Rest Refusal) (junctions : List Junction) (table : List Road)
+    → Ok n ≡ junctions_read (read_text s (room_of blank unused) text) → Startable (length blank) n → DrawsText s text n blank unused r junctions table
+    → (st : State) × (read_text s (room_of blank unused) text ≡ Ok st) × MatchResult r (λ d. Draws s st blank unused d junctions table) (λ _. ⊥)
+read_in_full s text n blank unused r junctions table count can drawn = by (read_text s (room_of blank unused) text) refl count
+  where
+    by : (q : Result State Fault) → read_text s (room_of blank unused) text ≡ q → Ok n ≡ junctions_read q → (st : State) × (read_text s (room_of blank unused) text ≡ Ok st) × MatchResult r (λ d. Draws s st blank unused d junctions table) (λ _. ⊥)
+    by (Ok st) e h = let same : st.junctions ≡ n = cc in (st, e, drawn st e same can)
+    by (Err f) e h = absurd (cc)

@@ -1,11 +1,12 @@
 -- A written network is read back. Assumes nothing.
 use Rattle.std.proofs.Common.{◌≡◌, ℕ, ◌*◌, ◌≤◌, false, List, [], ◌++◌, length, sym, refl, ap, ◌∙◌, subst, arith}
 use Rattle.measure.specs.Scale.{Scale}
+use Rattle.roadtext.specs.declared.parts.Room.{Room}
 use Rattle.roadtext.specs.declared.parts.Arc.{Arc}
 use Rattle.roadtext.specs.declared.parts.Two.{Two}
 use Rattle.roadtext.specs.declared.parts.Stage.{Stage}
 use Rattle.roadtext.specs.Text.{lines}
-use Rattle.roadtext.specs.Reading.{nothing_read, Room}
+use Rattle.roadtext.specs.Reading.{nothing_read}
 use Rattle.roadtext.specs.FirstFault.{awaits}
 use Rattle.roadtext.specs.Written.{arc_lines, move_lines, ask_lines, written_lines, without_comments, Writable, IsRead, ReadsBack}
 use Rattle.roadtext.proofs.FirstFault.{fault_is_the_first_lem}

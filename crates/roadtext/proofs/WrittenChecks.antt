@@ -7,7 +7,7 @@ use Rattle.roadtext.specs.declared.parts.Arc.{Arc}
 use Rattle.roadtext.specs.declared.parts.Two.{Two}
 use Rattle.roadtext.specs.Text.{number}
 use Rattle.roadtext.specs.Lines.{p_checks, a_checks, d_checks, q_checks, arc_in, two_in}
-use Rattle.roadtext.specs.Reading.{is_twin_lem}
+use Rattle.roadtext.specs.Reading.{is_twin, reversed}
 use Rattle.roadtext.specs.FirstFault.{AllPass}
 use Rattle.roadtext.specs.Written.{JunctionOf, WritableRoad}
 use Rattle.drawing.proofs.Within as limits
@@ -90,17 +90,13 @@ module _ (f g h : List ℕ) (a : Arc) (p : Writes f a.from) (q : Writes g a.to) 
       ap (λ y. arc y (unwrap_or (number g) 0) (unwrap_or (number h) 0)) (its_value f a.from p)
       ∙ ap₂ (λ y z. arc a.from y z) (its_value g a.to q) (its_value h a.worth r)
 
--- an arc with its ends exchanged, and that it is a twin
-
-abbrev pub turned : Arc → Arc
-turned a = arc a.to a.from a.worth
-
-pub turned_is_twin : (a : Arc) → is_twin_lem a (turned a) ≡ true
-turned_is_twin a =
+-- an arc with its ends exchanged is a twin, and can be written
+pub reversed_is_twin : (a : Arc) → is_twin a (reversed a) ≡ true
+reversed_is_twin a =
     and_from _ _ (eq-eqb a.from a.from refl) (and_from _ _ (eq-eqb a.to a.to refl) (eq-eqb a.worth a.worth refl))
 
-pub turned_is_writable : (s : Scale) (n : ℕ) (a : Arc) → WritableRoad s n a → WritableRoad s n (turned a)
-turned_is_writable s n a road = record {
+pub reversed_is_writable : (s : Scale) (n : ℕ) (a : Arc) → WritableRoad s n a → WritableRoad s n (reversed a)
+reversed_is_writable s n a road = record {
   from_a_junction = road.to_a_junction;
   to_a_junction = road.from_a_junction;
   ends_differ = λ e. road.ends_differ (sym e);

@@ -3,19 +3,22 @@ use Rattle.std.proofs.Common.{◌≡◌, ℕ, ◌-◌, ◌%◌, ◌^◌, ◌<◌
 use Rattle.std.proofs.ByRecursion.{All-append}
 use Rattle.std.proofs.lemmas.Bool.{or_from, lt-leb}
 use Rattle.measure.specs.Scale.{Scale}
+use Rattle.drawing.specs.declared.refusal.Refusal.TheVariants.{RoadsFull}
+use Rattle.roadtext.specs.declared.fault.Cause.TheVariants.{Twin as NoTwin, Drawing}
+use Rattle.roadtext.specs.declared.parts.Room.{Room}
 use Rattle.roadtext.specs.declared.parts.Arc.{Arc}
 use Rattle.roadtext.specs.declared.parts.Two.{Two}
 use Rattle.roadtext.specs.declared.parts.Stage.{Stage}
 use Rattle.roadtext.specs.declared.parts.Stage.TheVariants.{Arc as ArcAwaited, Twin, Tail, Asks}
 use Rattle.roadtext.specs.Text.{fields}
-use Rattle.roadtext.specs.Lines.{check, no_twin, a_checks, q_checks, arc_in, two_in}
-use Rattle.roadtext.specs.Reading.{State, nothing_read, Room, is_comment, is_twin_lem, line_checks, arcs_to_come_lem, after_line}
+use Rattle.roadtext.specs.Lines.{check, a_checks, q_checks, arc_in, two_in}
+use Rattle.roadtext.specs.Reading.{State, nothing_read, is_comment, is_twin, reversed, line_checks, arcs_to_come_lem, after_line}
 use Rattle.roadtext.specs.FirstFault.{checks_of, with_line, AllPass}
 use Rattle.roadtext.specs.Written.{spaced, head_line, arc_line, JunctionOf, WritableRoad}
 use Rattle.roadtext.proofs.WrittenNumbers.{number_decimal}
 use Rattle.roadtext.proofs.WrittenFields.{fields_of_spaced, head_line_lacks, fields_of_letter_line}
 use Rattle.roadtext.proofs.WrittenChecks.{Writes, head_fields, arc_fields, two_fields, its_value, head_passes, arc_passes, arc_is_read}
-use Rattle.roadtext.proofs.WrittenChecks.{turned, turned_is_twin, turned_is_writable, move_passes, ask_passes, two_is_read}
+use Rattle.roadtext.proofs.WrittenChecks.{reversed_is_twin, reversed_is_writable, move_passes, ask_passes, two_is_read}
 
 -- what has been read, part by part
 abbrev pub reading : Stage → ℕ → List Arc → List Two → List Two → State
@@ -106,18 +109,18 @@ module _ (s : Scale) (room : Room) where
 
       pub twin_adds :
           (a : Arc) → WritableRoad s n a → (k : ℕ) → length roads < 16384 → length roads < room.records
-          → Adds s room (reading (Twin a k) n roads moves asks) (line_of_arc (turned a))
+          → Adds s room (reading (Twin a k) n roads moves asks) (line_of_arc (reversed a))
           (reading (arcs_to_come_lem k) n (roads ++ (a ∷ [])) moves asks)
       twin_adds a road k h j =
-          let back = turned_is_writable s n a road in
-          let fs = words_of_arc (turned a) in
+          let back = reversed_is_writable s n a road in
+          let fs = words_of_arc (reversed a) in
           let full = leb 16384 (length roads) || leb room.records (length roads) in
-          by_its_fields (at (Twin a k)) (line_of_arc (turned a)) fs (reading (arcs_to_come_lem k) n (roads ++ (a ∷ [])) moves asks)
-          (fields_of_arc (turned a) back) (
+          by_its_fields (at (Twin a k)) (line_of_arc (reversed a)) fs (reading (arcs_to_come_lem k) n (roads ++ (a ∷ [])) moves asks)
+          (fields_of_arc (reversed a) back) (
             refl,
-            All-append (λ c. c.fails ≡ false) (a_checks s n fs) (check 1 no_twin (not (is_twin_lem a (arc_in fs))) ∷ check 1 8 full ∷ [])
-                (checks_of_arc (turned a) back) (
-                  ap (λ y. not (is_twin_lem a y)) (arc_of_line (turned a) back) ∙ ap not (turned_is_twin a),
+            All-append (λ c. c.fails ≡ false) (a_checks s n fs) (check 1 NoTwin (not (is_twin a (arc_in fs))) ∷ check 1 (Drawing RoadsFull) full ∷ [])
+                (checks_of_arc (reversed a) back) (
+                  ap (λ y. not (is_twin a y)) (arc_of_line (reversed a) back) ∙ ap not (reversed_is_twin a),
                   (room_for_a_road h j, tt),
                 ),
           )

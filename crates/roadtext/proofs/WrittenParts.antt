@@ -3,12 +3,13 @@ use Rattle.std.proofs.Common.{◌≡◌, ℕ, ◌+◌, ◌-◌, ◌*◌, ◌≤�
 use Rattle.std.specs.List.{AllByRecursion}
 use Rattle.std.proofs.lemmas.Bool.{cases_Bool, cond-false, ne_eqb}
 use Rattle.measure.specs.Scale.{Scale}
+use Rattle.roadtext.specs.declared.parts.Room.{Room}
 use Rattle.roadtext.specs.declared.parts.Arc.{Arc}
 use Rattle.roadtext.specs.declared.parts.Two.{Two}
 use Rattle.roadtext.specs.declared.parts.Stage.{Stage}
 use Rattle.roadtext.specs.declared.parts.Stage.TheVariants.{Arc as ArcAwaited, Tail, Asks}
 use Rattle.roadtext.specs.Text.{fields}
-use Rattle.roadtext.specs.Reading.{State, Room, is_comment, line_checks, after_line, arcs_to_come_lem}
+use Rattle.roadtext.specs.Reading.{State, is_comment, line_checks, after_line, arcs_to_come_lem}
 use Rattle.roadtext.specs.FirstFault.{with_line, with_lines, AllPass, NoFault, awaits}
 use Rattle.roadtext.specs.Written.{arc_lines, move_lines, ask_lines, without_comments, WritableRoad, WritableMove, WritableAsk}
 use Rattle.roadtext.proofs.WrittenLines.{reading, Adds, arc_adds, twin_adds, move_adds, first_ask_adds, ask_adds}

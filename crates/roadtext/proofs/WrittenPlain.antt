@@ -4,10 +4,11 @@ use Rattle.std.specs.List.{AllByRecursion}
 use Rattle.std.proofs.ByRecursion.{All-append, All-map, All-weaker}
 use Rattle.std.proofs.lemmas.Bool.{ne_eqb}
 use Rattle.measure.specs.Scale.{Scale}
+use Rattle.roadtext.specs.declared.parts.Room.{Room}
 use Rattle.roadtext.specs.declared.parts.Arc.{Arc}
 use Rattle.roadtext.specs.declared.parts.Two.{Two}
 use Rattle.roadtext.specs.Text.{fields}
-use Rattle.roadtext.specs.Reading.{Room, is_comment}
+use Rattle.roadtext.specs.Reading.{is_comment}
 use Rattle.roadtext.specs.Written.{spaced, head_line, arc_lines, move_line, move_lines, ask_line, ask_lines, written_lines}
 use Rattle.roadtext.specs.Written.{Lacks, without_comments, WritableRoad, WritableMove, WritableAsk, Writable}
 use Rattle.roadtext.proofs.WrittenFields.{fields_of_spaced, spaced_lacks, letter_line_lacks, head_line_lacks, fields_of_letter_line}

@@ -1,5 +1,5 @@
 pub mod Text
-pub mod Kinds
+pub mod Faults
 pub mod Lines
 pub mod Reading
 pub mod Read

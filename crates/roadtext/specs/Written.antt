@@ -3,10 +3,11 @@
 use Rattle.std.specs.Prelude.{◌≡◌, ℕ, ◌*◌, ◌^◌, ◌<◌, ◌≤◌, not, List, [], ◌∷◌, ◌++◌, map, length, Ok, decimal, filter, ◌≢◌}
 use Rattle.std.specs.List.{AllByRecursion}
 use Rattle.measure.specs.Scale.{Scale, Lawful}
+use Rattle.roadtext.specs.declared.parts.Room.{Room}
 use Rattle.roadtext.specs.declared.parts.Arc.{Arc}
 use Rattle.roadtext.specs.declared.parts.Two.{Two}
 use Rattle.roadtext.specs.Text.{lines, fields}
-use Rattle.roadtext.specs.Reading.{State, Room, is_comment, read_text}
+use Rattle.roadtext.specs.Reading.{State, is_comment, read_text}
 
 -- fields parted by single spaces
 abbrev pub spaced : List ℕ → List (List ℕ) → List ℕ

@@ -5,6 +5,7 @@ mod answer;
 mod asks;
 mod checking;
 mod draw;
+mod fault;
 mod fields;
 mod line;
 mod lines;
@@ -16,7 +17,8 @@ mod theorems;
 
 pub use answer::answer_line;
 pub use checking::check;
+pub use fault::{Cause, Fault};
 pub use outcome::{Reading, Unread};
-pub use parts::{Arc, Two};
+pub use parts::{Arc, Room, Two};
 pub use reading::read;
 pub use theorems::{fault_is_the_first, written_networks_read_back};

@@ -1,10 +1,9 @@
 // Theorems about what a text means. Each is a function that does nothing.
 ghost use Rattle.std.specs.Prelude.{ℕ, List};
-ghost use Rattle.roadtext.specs.Reading.{Room};
 ghost use Rattle.roadtext.specs.FirstFault.{FaultIsTheFirst};
 ghost use Rattle.roadtext.specs.Written.{Writable, ReadsBack};
 
-use super::parts::{Arc, Two};
+use super::parts::{Arc, Room, Two};
 use measure::Measure;
 
 // A text is refused with its first fault and no other, and read where it has none.

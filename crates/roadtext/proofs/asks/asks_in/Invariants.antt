@@ -1,5 +1,4 @@
 use Rattle.std.proofs.Common.{◌≡◌, ℕ, length, vec_items}
-use Rattle.roadtext.specs.Checked.{room_for}
 use Rattle.roadtext.specs.Reading.{State}
 use Rattle.roadtext.proofs.Midway.{Midway}
 use Rattle.roadtext.proofs.asks.asks_in.Given as goal
@@ -9,7 +8,7 @@ abbrev pub invariant-loop-line : goal.invariant-loop-line
 invariant-loop-line g l =
     (st : State)
     × (number : ℕ)
-    × Midway g.M.Measure.scale (room_for l.places l.records) l.text number l.rest st l.progress
+    × Midway g.M.Measure.scale l.fn.room l.text number l.rest st l.progress
     × (vec_items l.asks ≡ st.asks)
 
 abbrev pub decreases-loop-line : goal.decreases-loop-line

@@ -1,5 +1,4 @@
 use Rattle.std.proofs.Common.{◌+◌, ◌≤◌, length}
-use Rattle.roadtext.specs.Checked.{room_for}
 use Rattle.roadtext.specs.Reading.{State}
 use Rattle.roadtext.specs.Steps.{Counted}
 use Rattle.roadtext.proofs.Midway.{Midway}
@@ -9,7 +8,7 @@ use Rattle.roadtext.proofs.checking.check.Given as goal
 abbrev pub invariant-loop-line : goal.invariant-loop-line
 invariant-loop-line g l =
     (st : State)
-    × Midway g.M.Measure.scale (room_for l.places l.records) l.text l.number l.rest st l.progress
+    × Midway g.M.Measure.scale l.fn.room l.text l.number l.rest st l.progress
     × Counted l.progress l.progress.stage
     × (l.number + length l.rest ≤ 65537)
 

@@ -1,5 +1,4 @@
 use Rattle.std.proofs.Common.{ℕ, length}
-use Rattle.roadtext.specs.Checked.{room_for}
 use Rattle.roadtext.specs.Reading.{State}
 use Rattle.roadtext.proofs.Added.{SoFar}
 use Rattle.roadtext.proofs.Midway.{Midway}
@@ -10,7 +9,7 @@ abbrev pub invariant-loop-line : goal.invariant-loop-line
 invariant-loop-line g l =
     (st : State)
     × (number : ℕ)
-    × Midway g.M.Measure.scale (room_for l.initial.progress.places l.initial.progress.records) l.text number l.rest st l.progress
+    × Midway g.M.Measure.scale l.initial.progress.room l.text number l.rest st l.progress
     × SoFar g.M.Measure.scale l.count l.initial.drawing l.initial.junctions l.initial.roads st.roads st.moves l.drawing l.junctions l.roads
 
 abbrev pub decreases-loop-line : goal.decreases-loop-line

@@ -10,12 +10,12 @@ returns-in_err-head c =
     let fs : List (List ℕ) = fields c.args.line.now in
     let f = c.in_err-head.field-0.0 in
     passed_on c.from_residual.result f c.from_residual.ensures.1
-    ∙ fails_with (p_checks c.args.self.now.places fs) (head_in fs) (head_step c.args.self.now (head_in fs)) f c.in_err-head.ensures
+    ∙ fails_with (p_checks c.args.self.now.room.places fs) (head_in fs) (head_step c.args.self.now (head_in fs)) f c.in_err-head.ensures
 
 pub returns : goal.returns
 returns c =
     let fs : List (List ℕ) = fields c.args.line.now in
-    let cs = p_checks c.args.self.now.places fs in
+    let cs = p_checks c.args.self.now.room.places fs in
     let p = c.args.self.now in
     let h = c.in_ok-head.head in
     ap Ok (c.headed.ensures ∙ ap (head_step p) (value_passed cs (head_in fs) h c.in_ok-head.ensures))
