@@ -59,14 +59,14 @@ fn state(
     println!(rt; "districts in use {used}")?;
     match reading.drawing.count_borders(junctions, roads) {
         Ok(borders) => println!(rt; "borders {borders}")?,
-        Err(refusal) => return refuse(rt, refusal),
+        Err(refusal) => return refuse(rt, &refusal),
     }
     println!(rt; "asks that wait {asks}")?;
     Ok(())
 }
 
 // Prints the numbers of a refusal or of a fault, and nothing else; the program then ends with status 1.
-fn refuse(rt: &impl Print, numbers: impl fmt::Display) -> anyhow::Result<()> {
+fn refuse(rt: &impl Print, numbers: &impl fmt::Display) -> anyhow::Result<()> {
     println!(rt; "refused {numbers}")?;
     Err(anyhow!("refused"))
 }
@@ -85,7 +85,7 @@ fn run(rt: &HostRuntime, heap: Global) -> anyhow::Result<()> {
     let mut roads = vec![in heap; unused; ENTRIES]?;
     match read::<Metres>(heap, &text, &mut junctions, &mut roads) {
         Ok(reading) => state(rt, &reading, &junctions, &roads),
-        Err(Unread::Refused(fault)) => refuse(rt, fault),
+        Err(Unread::Refused(fault)) => refuse(rt, &fault),
         Err(Unread::Memory) => Err(anyhow!("no memory")),
     }
 }

@@ -9,3 +9,4 @@ pub mod FirstFault
 pub mod Written
 pub mod Checked
 pub mod Drawn
+pub mod Walked

@@ -4,11 +4,10 @@ ghost use Rattle.roadtext.specs.declared.outcome.Unread.TheVariants.{Memory as n
 ghost use Rattle.roadtext.specs.Reading.{State, read_text};
 ghost use Rattle.roadtext.specs.Steps.{with_ask};
 
-use super::checking::begin;
-use super::lines::cut_line;
 use super::outcome::Unread;
 use super::parts::{Room, Two};
 use super::steps::Event;
+use super::walk::Walk;
 use measure::Measure;
 use std::alloc::Global;
 
@@ -27,15 +26,11 @@ pub(crate) fn asks_in<M: Measure>(heap: Global, text: &[u8], room: Room) -> Resu
     ensures { MatchResult result (λ v. (st : State) → read_text M.Measure.scale room text.now ≡ Ok st → v.items ≡ st.asks) (λ e. e ≡ no_memory) }
 {
     let mut asks = Vec::new(heap);
-    let mut progress = begin(room);
-    let mut rest = text;
-    while let Some((line, more)) = cut_line(rest) {
-        let Ok(step) = progress.step::<M>(line) else {
+    for event in Walk::<M>::over(text, room) {
+        let Ok(event) = event else {
             return Ok(asks);
         };
-        keep(&mut asks, step.event)?;
-        progress = step.progress;
-        rest = more;
+        keep(&mut asks, event)?;
     }
     Ok(asks)
 }

@@ -1,10 +1,9 @@
 // Drawing a text that has no fault.
 ghost use Rattle.roadtext.specs.Drawn.{DrawsEvent, DrawsText};
 
-use super::checking::begin;
-use super::lines::cut_line;
 use super::parts::Room;
 use super::steps::Event;
+use super::walk::Walk;
 use drawing::{Junction, MOST_DISTRICTS, Refusal, Rest, Road};
 use measure::Measure;
 
@@ -40,16 +39,12 @@ pub(crate) fn draw<M: Measure>(
         places: junctions.len() as u64,
         records: roads.len() as u64,
     };
-    let mut progress = begin(room);
     let mut drawing = Rest::start::<M>(count, MOST_DISTRICTS, junctions)?;
-    let mut rest = text;
-    while let Some((line, more)) = cut_line(rest) {
-        let Ok(step) = progress.step::<M>(line) else {
+    for event in Walk::<M>::over(text, room) {
+        let Ok(event) = event else {
             return Ok(drawing);
         };
-        draw_event::<M>(&mut drawing, step.event, junctions, roads)?;
-        progress = step.progress;
-        rest = more;
+        draw_event::<M>(&mut drawing, event, junctions, roads)?;
     }
     Ok(drawing)
 }

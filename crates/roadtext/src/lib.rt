@@ -14,6 +14,7 @@ mod parts;
 mod reading;
 mod steps;
 mod theorems;
+mod walk;
 
 pub use answer::answer_line;
 pub use checking::check;

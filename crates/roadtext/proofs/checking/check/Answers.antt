@@ -1,27 +1,34 @@
-use Rattle.std.proofs.Common.{◌≡◌, Ok, Err, Result, MatchResult, ap, sym, refl, subst, arith}
-use Rattle.roadtext.specs.declared.fault.Fault.{Fault}
-use Rattle.roadtext.specs.Text.{fields}
+use Rattle.std.proofs.Common.{◌≡◌, Ok, IfOk, ◌∙◌, sym, subst, rules}
 use Rattle.roadtext.specs.Reading.{nothing_read}
-use Rattle.roadtext.specs.Steps.{Steps, Counted, stepped}
-use Rattle.roadtext.proofs.Midway.{midway_next}
+use Rattle.roadtext.specs.Steps.{Counted, Startable, stepped}
+use Rattle.roadtext.proofs.Midway.{midway_start, midway_on, midway_counted}
+use Rattle.roadtext.proofs.Whole.{walked_reads, walked_counts}
 use Rattle.roadtext.proofs.checking.check.Goals as goal
 
-ok_alone : {A E : Type 0} (F : Type 0) (r : Result A E) (y : A) → MatchResult r (λ x. ◌≡◌ {A = Result A F} (Ok y) (Ok x)) (λ _. ⊥) → r ≡ Ok y
-ok_alone F (Ok x) y h = let same : y ≡ x = cc in ap Ok (sym same)
-ok_alone F (Err e) y h = absurd h
+pub loop-event-init : goal.loop-event-init
+loop-event-init g c =
+    let w = c.over-walk.ensures in (
+      search rules,
+      nothing_read,
+      midway_start g.M.Measure.scale c.args.room c.args.text.now c.over-walk.result w.progress w.number w.rest,
+      subst (λ p. Counted p p.stage) (sym w.progress) tt,
+    )
 
-pub loop-line-init : goal.loop-line-init
-loop-line-init g c = (
-  nothing_read,
-  record { came = sym c.begin-progress.ensures; left = refl },
-  subst (λ p. Counted p p.stage) (sym c.begin-progress.ensures) tt,
-  omega arith,
-)
+pub loop-event-preserved : goal.loop-event-preserved
+loop-event-preserved g c =
+    let inv = c.loop-event.invariant in
+    let fine : c.in-Some.event ≡ Ok c.in_ok-event.field-0 = c.in_ok-event.was in (
+      search rules,
+      stepped inv.1 (record { progress = c.next.new.self.progress; event = c.in_ok-event.field-0 }),
+      midway_on inv.2 c.next.new.self c.in-Some.ensures.steps c.in_ok-event.field-0 fine,
+      midway_counted inv.2 c.next.new.self c.in-Some.ensures.steps c.in_ok-event.field-0 fine inv.3,
+    )
 
-pub loop-line-preserved : goal.loop-line-preserved
-loop-line-preserved g c =
-    let inv = c.loop-line.invariant in
-    let cut = c.in-Some.ensures in
-    let read : c.step.result ≡ Ok c.in_ok-step.step = ok_alone Fault c.step.result c.in_ok-step.step c.in_ok-step.ensures.cases in
-    let steps = subst (Steps g.M.Measure.scale (fields c.in-Some.line.now) c.loop-line.progress) read c.step.ensures in
-    (stepped inv.0 c.in_ok-step.step, midway_next inv.1 c.in_ok-step.step cut steps, steps.counts inv.2, omega (arith, inv.3, cut.shorter))
+pub returns-clause-reads : goal.returns-clause-reads
+returns-clause-reads g c =
+    c.ended.ensures ∙ walked_reads c.loop-event.invariant.2 c.next.new.self c.in_default.ensures.steps c.if-text-gt-MOST_BYTES.false
+
+pub returns-clause-counts : goal.returns-clause-counts
+returns-clause-counts g c =
+    subst (λ r. IfOk r (λ n. Startable c.args.room.places n)) (sym c.ended.ensures)
+    (walked_counts c.loop-event.invariant.2 c.next.new.self c.in_default.ensures.steps c.loop-event.invariant.3)
