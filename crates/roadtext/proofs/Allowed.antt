@@ -7,13 +7,13 @@ use Rattle.drawing.specs.Edits.{within}
 use Rattle.roadtext.specs.declared.parts.Arc.{Arc}
 use Rattle.roadtext.specs.declared.steps.Progress.{Progress}
 use Rattle.roadtext.specs.declared.steps.Step.{Step}
-use Rattle.roadtext.specs.Lines.{passed, d_checks, arc_in, two_in, number_at}
+use Rattle.roadtext.specs.Lines.{passed, d_checks, arc_in, move_in, number_at}
 use Rattle.roadtext.specs.Reading.{is_twin}
 use Rattle.roadtext.specs.Steps.{Begun, Addable, Movable, twin_checks}
 use Rattle.roadtext.proofs.Passed.{each_passes}
 
 -- a move passes the checks of its `d` line
-pub move_movable : (fs : List (List ℕ)) (p : Progress) (t : Step) → Begun p.stage → Ok t ≡ passed (d_checks p.junctions fs) t → Movable p (two_in fs)
+pub move_movable : (fs : List (List ℕ)) (p : Progress) (t : Step) → Begun p.stage → Ok t ≡ passed (d_checks p.junctions fs) t → Movable p (move_in fs)
 move_movable fs p t b o =
     let all = each_passes (d_checks p.junctions fs) t o in
     record {

@@ -7,7 +7,7 @@ use Rattle.roadtext.specs.declared.parts.LineFault.{LineFault}
 use Rattle.roadtext.specs.declared.parts.Stage.{Stage}
 use Rattle.roadtext.specs.declared.parts.Stage.TheVariants.{Head, Arc as ArcAwaited, Twin, Tail, Asks}
 use Rattle.roadtext.specs.Text.{fields}
-use Rattle.roadtext.specs.Lines.{two_in}
+use Rattle.roadtext.specs.Lines.{move_in, ask_in}
 use Rattle.roadtext.specs.Reading.{State, at_line, is_comment, has_letter, line_checks, after_line, arcs_to_come_lem, judged, read_line, then_lines, read_lines, ended}
 use Rattle.roadtext.specs.Steps.{Begun}
 use Rattle.roadtext.proofs.Passed.{passed_gives}
@@ -29,8 +29,8 @@ after_stays st fs (ArcAwaited k) h = (tt, refl)
 after_stays st fs (Twin a k) h = (begun_arcs k, refl)
 after_stays st fs Tail h =
     stays_either st
-    (record { stage = Tail; junctions = st.junctions; roads = st.roads; moves = st.moves ++ (two_in fs ∷ []); asks = st.asks })
-    (record { stage = Asks; junctions = st.junctions; roads = st.roads; moves = st.moves; asks = st.asks ++ (two_in fs ∷ []) })
+    (record { stage = Tail; junctions = st.junctions; roads = st.roads; moves = st.moves ++ (move_in fs ∷ []); asks = st.asks })
+    (record { stage = Asks; junctions = st.junctions; roads = st.roads; moves = st.moves; asks = st.asks ++ (ask_in fs ∷ []) })
     (has_letter fs 100)
     (tt, refl)
     (tt, refl)

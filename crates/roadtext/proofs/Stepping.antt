@@ -9,11 +9,11 @@ use Rattle.roadtext.specs.declared.parts.Arc.{Arc}
 use Rattle.roadtext.specs.declared.parts.LineFault.{LineFault}
 use Rattle.roadtext.specs.declared.parts.Stage.{Stage}
 use Rattle.roadtext.specs.declared.parts.Stage.TheVariants.{Head, Arc as ArcAwaited, Twin, Tail, Asks}
-use Rattle.roadtext.specs.declared.steps.Event.TheVariants.{Move, Ask}
+use Rattle.roadtext.specs.declared.steps.Event.TheVariants.{Move as MoveRead, Ask as AskRead}
 use Rattle.roadtext.specs.declared.steps.Progress.{Progress}
 use Rattle.roadtext.specs.declared.steps.Step.{Step}
 use Rattle.roadtext.specs.Text.{letter_of}
-use Rattle.roadtext.specs.Lines.{Check, passed, p_checks, a_checks, d_checks, q_checks, head_in, arc_in, two_in, number_at}
+use Rattle.roadtext.specs.Lines.{Check, passed, p_checks, a_checks, d_checks, q_checks, head_in, arc_in, move_in, ask_in, number_at}
 use Rattle.roadtext.specs.Reading.{State, at_line, read_line, line_checks, after_line, has_letter, letter_check, arcs_to_come_lem}
 use Rattle.roadtext.specs.Steps.{Steps, progress_of, stepped, stepped_by, moved_to, head_step, arc_step, twin_checks, twin_step, Startable, Begun, Counted, Drawable}
 use Rattle.roadtext.proofs.Passed.{passed_gives, each_passes}
@@ -99,10 +99,10 @@ module _ (s : Scale) (fs : List (List ℕ)) (p : Progress) (r : Result Step Line
       p
       r
 
-  pub asks_step : Some 113 ≡ letter_of fs → p.stage ≡ Asks → r ≡ passed (q_checks p.junctions fs) (moved_to p Asks (Some (Ask (two_in fs)))) → Steps s fs p r
+  pub asks_step : Some 113 ≡ letter_of fs → p.stage ≡ Asks → r ≡ passed (q_checks p.junctions fs) (moved_to p Asks (Some (AskRead (ask_in fs)))) → Steps s fs p r
   asks_step k =
-      steps_by s fs (sym (letter_is fs 113 99 k)) Asks (λ q. q_checks q.junctions fs) (λ q. moved_to q Asks (Some (Ask (two_in fs))))
-      (λ room st. in_place fs 113 (q_checks st.junctions fs) (stepped st (moved_to (progress_of room st) Asks (Some (Ask (two_in fs))))) (letter_is fs 113 113 k))
+      steps_by s fs (sym (letter_is fs 113 99 k)) Asks (λ q. q_checks q.junctions fs) (λ q. moved_to q Asks (Some (AskRead (ask_in fs))))
+      (λ room st. in_place fs 113 (q_checks st.junctions fs) (stepped st (moved_to (progress_of room st) Asks (Some (AskRead (ask_in fs))))) (letter_is fs 113 113 k))
       (λ _ _. refl)
       (λ _ _ h. h)
       (λ _ _ _. tt)
@@ -111,17 +111,17 @@ module _ (s : Scale) (fs : List (List ℕ)) (p : Progress) (r : Result Step Line
 
   -- a `d` line or another, by its letter
   tail_at : (room : Room) (st : State) (b : Bool) → b ≡ has_letter fs 100
-      → passed (cond b (d_checks st.junctions fs) (letter_check fs 113 ∷ q_checks st.junctions fs)) (cond b (stepped st (moved_to (progress_of room st) Tail (Some (Move (two_in fs))))) (stepped st (moved_to (progress_of room st) Asks (Some (Ask (two_in fs))))))
+      → passed (cond b (d_checks st.junctions fs) (letter_check fs 113 ∷ q_checks st.junctions fs)) (cond b (stepped st (moved_to (progress_of room st) Tail (Some (MoveRead (move_in fs))))) (stepped st (moved_to (progress_of room st) Asks (Some (AskRead (ask_in fs))))))
       ≡ passed (line_checks s room st fs Tail) (after_line st fs Tail)
   tail_at room st b e =
-      ap (λ v. passed (cond v (d_checks st.junctions fs) (letter_check fs 113 ∷ q_checks st.junctions fs)) (cond v (stepped st (moved_to (progress_of room st) Tail (Some (Move (two_in fs))))) (stepped st (moved_to (progress_of room st) Asks (Some (Ask (two_in fs))))))) e
+      ap (λ v. passed (cond v (d_checks st.junctions fs) (letter_check fs 113 ∷ q_checks st.junctions fs)) (cond v (stepped st (moved_to (progress_of room st) Tail (Some (MoveRead (move_in fs))))) (stepped st (moved_to (progress_of room st) Asks (Some (AskRead (ask_in fs))))))) e
 
   -- the first `q` line
-  pub tail_asks : Some 113 ≡ letter_of fs → p.stage ≡ Tail → r ≡ passed (q_checks p.junctions fs) (moved_to p Asks (Some (Ask (two_in fs)))) → Steps s fs p r
+  pub tail_asks : Some 113 ≡ letter_of fs → p.stage ≡ Tail → r ≡ passed (q_checks p.junctions fs) (moved_to p Asks (Some (AskRead (ask_in fs)))) → Steps s fs p r
   tail_asks k =
-      steps_by s fs (sym (letter_is fs 113 99 k)) Tail (λ q. q_checks q.junctions fs) (λ q. moved_to q Asks (Some (Ask (two_in fs))))
+      steps_by s fs (sym (letter_is fs 113 99 k)) Tail (λ q. q_checks q.junctions fs) (λ q. moved_to q Asks (Some (AskRead (ask_in fs))))
       (λ room st.
-      in_place fs 113 (q_checks st.junctions fs) (stepped st (moved_to (progress_of room st) Asks (Some (Ask (two_in fs))))) (letter_is fs 113 113 k)
+      in_place fs 113 (q_checks st.junctions fs) (stepped st (moved_to (progress_of room st) Asks (Some (AskRead (ask_in fs))))) (letter_is fs 113 113 k)
       ∙ tail_at room st false (sym (letter_is fs 113 100 k)))
       (λ _ _. refl)
       (λ _ _ h. h)
@@ -129,13 +129,13 @@ module _ (s : Scale) (fs : List (List ℕ)) (p : Progress) (r : Result Step Line
       p
       r
 
-  pub tail_moves : Some 100 ≡ letter_of fs → p.stage ≡ Tail → r ≡ passed (d_checks p.junctions fs) (moved_to p Tail (Some (Move (two_in fs)))) → Steps s fs p r
+  pub tail_moves : Some 100 ≡ letter_of fs → p.stage ≡ Tail → r ≡ passed (d_checks p.junctions fs) (moved_to p Tail (Some (MoveRead (move_in fs)))) → Steps s fs p r
   tail_moves k =
-      steps_by s fs (sym (letter_is fs 100 99 k)) Tail (λ q. d_checks q.junctions fs) (λ q. moved_to q Tail (Some (Move (two_in fs))))
+      steps_by s fs (sym (letter_is fs 100 99 k)) Tail (λ q. d_checks q.junctions fs) (λ q. moved_to q Tail (Some (MoveRead (move_in fs))))
       (λ room st. tail_at room st true (sym (letter_is fs 100 100 k)))
       (λ _ _. refl)
       (λ _ _ h. h)
-      (λ q at o. move_movable fs q (moved_to q Tail (Some (Move (two_in fs)))) (subst Begun (sym at) tt) o)
+      (λ q at o. move_movable fs q (moved_to q Tail (Some (MoveRead (move_in fs)))) (subst Begun (sym at) tt) o)
       p
       r
 

@@ -3,7 +3,8 @@ use Rattle.std.proofs.Common.{◌≡◌, ℕ, ◌*◌, ◌≤◌, false, List, [
 use Rattle.measure.specs.Scale.{Scale}
 use Rattle.roadtext.specs.declared.parts.Room.{Room}
 use Rattle.roadtext.specs.declared.parts.Arc.{Arc}
-use Rattle.roadtext.specs.declared.parts.Two.{Two}
+use Rattle.roadtext.specs.declared.parts.Move.{Move}
+use Rattle.roadtext.specs.declared.parts.Ask.{Ask}
 use Rattle.roadtext.specs.declared.parts.Stage.{Stage}
 use Rattle.roadtext.specs.Text.{lines}
 use Rattle.roadtext.specs.Reading.{nothing_read}
@@ -15,7 +16,7 @@ use Rattle.roadtext.proofs.WrittenLines.{reading, head_adds}
 use Rattle.roadtext.proofs.WrittenParts.{Reads, line_first, lines_first, past_comments, roads_are_read, moves_are_read, all_asks_are_read}
 use Rattle.roadtext.proofs.WrittenPlain.{written_lines_lack_line_ends, no_written_line_is_a_comment}
 
-module _ (s : Scale) (room : Room) (n : ℕ) (roads : List Arc) (moves asks : List Two) (w : Writable s room n roads moves asks) where
+module _ (s : Scale) (room : Room) (n : ℕ) (roads : List Arc) (moves : List Move) (asks : List Ask) (w : Writable s room n roads moves asks) where
   all_is_read :
       (stage : Stage) × (awaits stage ≡ false)
       × Reads s room nothing_read (written_lines n roads moves asks) (reading stage n roads moves asks)

@@ -10,7 +10,8 @@ use Rattle.roadtext.specs.declared.fault.Cause.TheVariants.{Field, Twin as NoTwi
 use Rattle.roadtext.specs.declared.parts.Arc.{Arc}
 use Rattle.roadtext.specs.declared.parts.Head.{Head}
 use Rattle.roadtext.specs.declared.parts.LineFault.{LineFault}
-use Rattle.roadtext.specs.declared.parts.Two.{Two}
+use Rattle.roadtext.specs.declared.parts.Move.{Move}
+use Rattle.roadtext.specs.declared.parts.Ask.{Ask}
 
 -- a check of a line: whether it fails, which field it then faults, and the cause
 pub record Check : Type 0 where
@@ -88,8 +89,11 @@ head_in fs = record { junctions = number_at fs 3; arcs = number_at fs 4 }
 abbrev pub arc_in : List (List ℕ) → Arc
 arc_in fs = record { from = number_at fs 2; to = number_at fs 3; worth = number_at fs 4 }
 
-abbrev pub two_in : List (List ℕ) → Two
-two_in fs = record { left = number_at fs 2; right = number_at fs 3 }
+abbrev pub move_in : List (List ℕ) → Move
+move_in fs = record { junction = number_at fs 2; district = number_at fs 3 }
+
+abbrev pub ask_in : List (List ℕ) → Ask
+ask_in fs = record { from = number_at fs 2; to = number_at fs 3 }
 
 -- The value x, if no check of the list fails; otherwise the field and the cause of the first that does.
 abbrev pub passed : {A : Type 0} → List Check → A → Result A LineFault

@@ -8,7 +8,7 @@ use Rattle.drawing.specs.declared.tables.Junction.{Junction}
 use Rattle.drawing.specs.declared.tables.Road.{Road}
 use Rattle.roadtext.specs.declared.parts.Room.{Room}
 use Rattle.roadtext.specs.declared.parts.Arc.{Arc}
-use Rattle.roadtext.specs.declared.parts.Two.{Two}
+use Rattle.roadtext.specs.declared.parts.Move.{Move}
 use Rattle.roadtext.specs.declared.outcome.Reading.{Reading}
 use Rattle.roadtext.specs.declared.outcome.Unread.{Unread}
 use Rattle.roadtext.specs.declared.outcome.Unread.TheVariants.{Refused, Memory}
@@ -22,10 +22,10 @@ AddsAll s d table (a ∷ more) e after =
     × AddsAll s next then more e after
 
 -- the junctions moved one after the other, each by an accepted assign
-abbrev pub MovesAll : Rest → List Junction → List Two → List Junction → Type 0
+abbrev pub MovesAll : Rest → List Junction → List Move → List Junction → Type 0
 MovesAll d table [] after = after ≡ table
 MovesAll d table (m ∷ more) after =
-    (then : List Junction) × MovesOneJunction d table m.left m.right (Ok tt) then × MovesAll d then more after
+    (then : List Junction) × MovesOneJunction d table m.junction m.district (Ok tt) then × MovesAll d then more after
 
 -- What has been read is drawn: an accepted start with its junctions and 64 districts, then its roads, then its moves.
 abbrev pub Draws : Scale → State → List Junction → List Road → Rest → List Junction → List Road → Type 0

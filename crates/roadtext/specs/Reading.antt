@@ -9,19 +9,20 @@ use Rattle.roadtext.specs.declared.fault.Fault.{Fault}
 use Rattle.roadtext.specs.declared.parts.Room.{Room}
 use Rattle.roadtext.specs.declared.parts.LineFault.{LineFault}
 use Rattle.roadtext.specs.declared.parts.Arc.{Arc}
-use Rattle.roadtext.specs.declared.parts.Two.{Two}
+use Rattle.roadtext.specs.declared.parts.Move.{Move}
+use Rattle.roadtext.specs.declared.parts.Ask.{Ask}
 use Rattle.roadtext.specs.declared.parts.Stage.{Stage}
 use Rattle.roadtext.specs.declared.parts.Stage.TheVariants.{Head, Arc as ArcAwaited, Twin, Tail, Asks}
 use Rattle.roadtext.specs.Text.{lines, fields, letter_of}
-use Rattle.roadtext.specs.Lines.{Check, check, passed, head_in, arc_in, two_in, p_checks, a_checks, d_checks, q_checks}
+use Rattle.roadtext.specs.Lines.{Check, check, passed, head_in, arc_in, move_in, ask_in, p_checks, a_checks, d_checks, q_checks}
 
 -- what has been read so far
 pub record State : Type 0 where
   pub stage : Stage
   pub junctions : ℕ
   pub roads : List Arc
-  pub moves : List Two
-  pub asks : List Two
+  pub moves : List Move
+  pub asks : List Ask
 
 abbrev pub nothing_read : State
 nothing_read = record { stage = Head; junctions = 0; roads = []; moves = []; asks = [] }
@@ -74,10 +75,10 @@ after_line st fs (Twin a k) =
     record { stage = arcs_to_come_lem k; junctions = st.junctions; roads = st.roads ++ (a ∷ []); moves = st.moves; asks = st.asks }
 after_line st fs Tail =
     cond (has_letter fs 100)
-    record { stage = Tail; junctions = st.junctions; roads = st.roads; moves = st.moves ++ (two_in fs ∷ []); asks = st.asks }
-    record { stage = Asks; junctions = st.junctions; roads = st.roads; moves = st.moves; asks = st.asks ++ (two_in fs ∷ []) }
+    record { stage = Tail; junctions = st.junctions; roads = st.roads; moves = st.moves ++ (move_in fs ∷ []); asks = st.asks }
+    record { stage = Asks; junctions = st.junctions; roads = st.roads; moves = st.moves; asks = st.asks ++ (ask_in fs ∷ []) }
 after_line st fs Asks =
-    record { stage = Asks; junctions = st.junctions; roads = st.roads; moves = st.moves; asks = st.asks ++ (two_in fs ∷ []) }
+    record { stage = Asks; junctions = st.junctions; roads = st.roads; moves = st.moves; asks = st.asks ++ (ask_in fs ∷ []) }
 
 -- a fault: its line, its field and its cause
 abbrev pub fault : ℕ → ℕ → Cause → Fault

@@ -8,11 +8,12 @@ use Rattle.roadtext.specs.declared.parts.Room.{Room}
 use Rattle.roadtext.specs.declared.parts.Arc.{Arc}
 use Rattle.roadtext.specs.declared.parts.Head.{Head}
 use Rattle.roadtext.specs.declared.parts.LineFault.{LineFault}
-use Rattle.roadtext.specs.declared.parts.Two.{Two}
+use Rattle.roadtext.specs.declared.parts.Move.{Move}
+use Rattle.roadtext.specs.declared.parts.Ask.{Ask}
 use Rattle.roadtext.specs.declared.parts.Stage.{Stage}
 use Rattle.roadtext.specs.declared.parts.Stage.TheVariants.{Head as HeadAwaited, Arc as ArcAwaited, Twin, Tail, Asks}
 use Rattle.roadtext.specs.declared.steps.Event.{Event}
-use Rattle.roadtext.specs.declared.steps.Event.TheVariants.{Road, Move, Ask}
+use Rattle.roadtext.specs.declared.steps.Event.TheVariants.{Road, Move as MoveRead, Ask as AskRead}
 use Rattle.roadtext.specs.declared.steps.Progress.{Progress}
 use Rattle.roadtext.specs.declared.steps.Step.{Step}
 use Rattle.roadtext.specs.Lines.{Check, check, arc_in, a_checks}
@@ -27,20 +28,20 @@ progress_of room st =
 abbrev pub with_road : Option Event → List Arc → List Arc
 with_road None roads = roads
 with_road (Some (Road a)) roads = roads ++ (a ∷ [])
-with_road (Some (Move m)) roads = roads
-with_road (Some (Ask q)) roads = roads
+with_road (Some (MoveRead m)) roads = roads
+with_road (Some (AskRead q)) roads = roads
 
-abbrev pub with_move : Option Event → List Two → List Two
+abbrev pub with_move : Option Event → List Move → List Move
 with_move None moves = moves
 with_move (Some (Road a)) moves = moves
-with_move (Some (Move m)) moves = moves ++ (m ∷ [])
-with_move (Some (Ask q)) moves = moves
+with_move (Some (MoveRead m)) moves = moves ++ (m ∷ [])
+with_move (Some (AskRead q)) moves = moves
 
-abbrev pub with_ask : Option Event → List Two → List Two
+abbrev pub with_ask : Option Event → List Ask → List Ask
 with_ask None asks = asks
 with_ask (Some (Road a)) asks = asks
-with_ask (Some (Move m)) asks = asks
-with_ask (Some (Ask q)) asks = asks ++ (q ∷ [])
+with_ask (Some (MoveRead m)) asks = asks
+with_ask (Some (AskRead q)) asks = asks ++ (q ∷ [])
 
 -- what has been read after a step
 abbrev pub stepped : State → Step → State
@@ -88,17 +89,17 @@ pub record Addable (s : Scale) (p : Progress) (a : Arc) : Type 0 where
   pub room_left : nat_le 16384 p.roads || nat_le p.room.records p.roads ≡ false
 
 -- a junction that can be moved
-pub record Movable (p : Progress) (m : Two) : Type 0 where
+pub record Movable (p : Progress) (m : Move) : Type 0 where
   pub begun : Begun p.stage
-  pub junction_within : within 1 p.junctions m.left ≡ true
-  pub district_below : nat_lt m.right 64 ≡ true
+  pub junction_within : within 1 p.junctions m.junction ≡ true
+  pub district_below : nat_lt m.district 64 ≡ true
 
 -- what an event adds can be added
 abbrev pub Drawable : Scale → Progress → Option Event → Type 0
 Drawable s p None = Unit {0}
 Drawable s p (Some (Road a)) = Addable s p a
-Drawable s p (Some (Move m)) = Movable p m
-Drawable s p (Some (Ask q)) = Unit {0}
+Drawable s p (Some (MoveRead m)) = Movable p m
+Drawable s p (Some (AskRead q)) = Unit {0}
 
 -- The line's fields, where what has been read has come as far as p: the line's fault, or the step to what is read with it.
 pub record Steps (s : Scale) (fs : List (List ℕ)) (p : Progress) (r : Result Step LineFault) : Type 0 where

@@ -5,24 +5,24 @@ ghost use Rattle.roadtext.specs.Reading.{State, read_text};
 ghost use Rattle.roadtext.specs.Steps.{with_ask};
 
 use super::outcome::Unread;
-use super::parts::{Room, Two};
+use super::parts::{Ask, Room};
 use super::steps::Event;
 use super::walk::Walk;
 use measure::Measure;
 use std::alloc::Global;
 
 // Keeps an ask; another event is let pass.
-fn keep(asks: &mut Vec<Two>, event: Option<Event>) -> Result<(), Unread>
+fn keep(asks: &mut Vec<Ask>, event: Option<Event>) -> Result<(), Unread>
     ensures { MatchResult result (λ _. asks.new.items ≡ with_ask event asks.old.items) (λ e. e ≡ no_memory) }
 {
-    if let Some(Event::Ask(two)) = event {
-        asks.push(two)?;
+    if let Some(Event::Ask(ask)) = event {
+        asks.push(ask)?;
     }
     Ok(())
 }
 
 // The asks of a text without fault, in order.
-pub(crate) fn asks_in<M: Measure>(heap: Global, text: &[u8], room: Room) -> Result<Vec<Two>, Unread>
+pub(crate) fn asks_in<M: Measure>(heap: Global, text: &[u8], room: Room) -> Result<Vec<Ask>, Unread>
     ensures { MatchResult result (λ v. (st : State) → read_text M.Measure.scale room text.now ≡ Ok st → v.items ≡ st.asks) (λ e. e ≡ no_memory) }
 {
     let mut asks = Vec::new(heap);

@@ -21,7 +21,7 @@ fn draw_event<M: Measure>(
             drawing.add::<M>(roads, arc.from, arc.to, arc.worth)?;
             Ok(())
         }
-        Some(Event::Move(two)) => drawing.assign(junctions, two.left, two.right),
+        Some(Event::Move(new)) => drawing.assign(junctions, new.junction, new.district),
         None | Some(Event::Ask(_)) => Ok(()),
     }
 }

@@ -20,6 +20,6 @@ pub use answer::answer_line;
 pub use checking::check;
 pub use fault::{Cause, Fault};
 pub use outcome::{Reading, Unread};
-pub use parts::{Arc, Room, Two};
+pub use parts::{Arc, Ask, Move, Room};
 pub use reading::read;
 pub use theorems::{fault_is_the_first, written_networks_read_back};

@@ -2,13 +2,13 @@
 ghost use Rattle.std.specs.Prelude.{◌≡◌, ◌^◌, ◌<◌, [], ◌∷◌, ◌==◌};
 ghost use Rattle.roadtext.specs.Text.{fields, letter_of};
 ghost use Rattle.roadtext.specs.Lines.{check, no_number, number_at, field_is, junction_checks, end_check, p_checks, a_checks, d_checks, q_checks, passed};
-ghost use Rattle.roadtext.specs.Lines.{head_in, arc_in, two_in};
+ghost use Rattle.roadtext.specs.Lines.{head_in, arc_in, move_in, ask_in};
 ghost use Rattle.drawing.specs.declared.refusal.Refusal.TheVariants.{EndsAlike};
 ghost use Rattle.roadtext.specs.declared.fault.Cause.TheVariants.{Field, Drawing};
 
 use super::fault::Cause;
 use super::fields::{field, number};
-use super::parts::{Arc, Head, LineFault, Two};
+use super::parts::{Arc, Ask, Head, LineFault, Move};
 use drawing::{MOST_DISTRICTS, MOST_JUNCTIONS, Refusal};
 use measure::Measure;
 
@@ -133,27 +133,27 @@ pub(crate) fn read_arc<M: Measure>(line: &[u8], junctions: u64) -> Result<Arc, L
 }
 
 // `d J D`: junction J lies in district D.
-pub(crate) fn read_move(line: &[u8], junctions: u64) -> Result<Two, LineFault>
-    ensures { result ≡ passed (d_checks junctions (fields line.now)) (two_in (fields line.now)) }
+pub(crate) fn read_move(line: &[u8], junctions: u64) -> Result<Move, LineFault>
+    ensures { result ≡ passed (d_checks junctions (fields line.now)) (move_in (fields line.now)) }
 {
-    let left = junction_at(line, 2, junctions)?;
-    let right = number_at(line, 3)?;
-    if right >= MOST_DISTRICTS {
+    let junction = junction_at(line, 2, junctions)?;
+    let district = number_at(line, 3)?;
+    if district >= MOST_DISTRICTS {
         return Err(LineFault {
             field: 3,
             cause: Cause::Drawing(Refusal::NoDistrict),
         });
     }
     end_after(line, 3)?;
-    Ok(Two { left, right })
+    Ok(Move { junction, district })
 }
 
 // `q S T`: a distance is asked from S to T.
-pub(crate) fn read_ask(line: &[u8], junctions: u64) -> Result<Two, LineFault>
-    ensures { result ≡ passed (q_checks junctions (fields line.now)) (two_in (fields line.now)) }
+pub(crate) fn read_ask(line: &[u8], junctions: u64) -> Result<Ask, LineFault>
+    ensures { result ≡ passed (q_checks junctions (fields line.now)) (ask_in (fields line.now)) }
 {
-    let left = junction_at(line, 2, junctions)?;
-    let right = junction_at(line, 3, junctions)?;
+    let from = junction_at(line, 2, junctions)?;
+    let to = junction_at(line, 3, junctions)?;
     end_after(line, 3)?;
-    Ok(Two { left, right })
+    Ok(Ask { from, to })
 }

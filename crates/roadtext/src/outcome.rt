@@ -3,7 +3,7 @@ ghost use Rattle.std.specs.Prelude.{◌≡◌};
 ghost use Rattle.roadtext.specs.declared.outcome.Unread.TheVariants.{Refused as refused_with, Memory as no_memory};
 
 use super::fault::Fault;
-use super::parts::Two;
+use super::parts::Ask;
 use drawing::Rest;
 use std::alloc::AllocFailed;
 
@@ -11,7 +11,7 @@ use std::alloc::AllocFailed;
 #[derive(Drop)]
 pub struct Reading {
     pub drawing: Rest,
-    pub asks: Vec<Two>,
+    pub asks: Vec<Ask>,
 }
 
 // Why a text was not read: it is refused with its first fault, or there was no memory for what it says.

@@ -32,11 +32,18 @@ impl Arc {
     }
 }
 
-// The two numbers of a `d` line, a junction and its district, or of a `q` line, the junctions between which a distance is asked.
+// A `d` line: a junction lies in a district.
 #[derive(Clone, Copy, PartialEq, Eq, Debug)]
-pub struct Two {
-    pub left: u64,
-    pub right: u64,
+pub struct Move {
+    pub junction: u64,
+    pub district: u64,
+}
+
+// A `q` line: a distance is asked from one junction to another.
+#[derive(Clone, Copy, PartialEq, Eq, Debug)]
+pub struct Ask {
+    pub from: u64,
+    pub to: u64,
 }
 
 // The `p` line: the number of junctions, and of arc lines to come.

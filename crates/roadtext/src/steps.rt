@@ -1,15 +1,15 @@
 // One line of a text: what it adds to what has been read.
 ghost use Rattle.std.specs.Prelude.{◌≡◌, Some};
 ghost use Rattle.roadtext.specs.Text.{fields};
-ghost use Rattle.roadtext.specs.Lines.{p_checks, a_checks, d_checks, q_checks, passed, head_in, arc_in, two_in};
+ghost use Rattle.roadtext.specs.Lines.{p_checks, a_checks, d_checks, q_checks, passed, head_in, arc_in, move_in, ask_in};
 ghost use Rattle.roadtext.specs.Reading.{arcs_to_come_lem};
 ghost use Rattle.roadtext.specs.Steps.{Steps, moved_to, head_step, arc_step, road_checks, twin_checks, twin_step};
 ghost use Rattle.roadtext.specs.declared.parts.Stage.TheVariants.{Tail, Asks};
-ghost use Rattle.roadtext.specs.declared.steps.Event.TheVariants.{Move, Ask};
+ghost use Rattle.roadtext.specs.declared.steps.Event.TheVariants.{Move as MoveRead, Ask as AskRead};
 
 use super::fault::Cause;
 use super::line::{letter, read_arc, read_ask, read_head, read_move};
-use super::parts::{Arc, Head, LineFault, Room, Stage, Two};
+use super::parts::{Arc, Ask, Head, LineFault, Move, Room, Stage};
 use drawing::{MOST_ROADS, Refusal};
 use measure::Measure;
 
@@ -26,8 +26,8 @@ pub(crate) struct Progress {
 #[derive(Clone, Copy, PartialEq, Eq, Debug)]
 pub(crate) enum Event {
     Road(Arc),
-    Move(Two),
-    Ask(Two),
+    Move(Move),
+    Ask(Ask),
 }
 
 // A line read: how far that brings the reading, and what the line adds, if anything.
@@ -128,18 +128,18 @@ impl Progress {
 
     // A `q` line.
     fn ask(&self, line: &[u8]) -> Result<Step, LineFault>
-        ensures { result ≡ passed (q_checks self.now.junctions (fields line.now)) (moved_to self.now Asks (Some (Ask (two_in (fields line.now))))) }
+        ensures { result ≡ passed (q_checks self.now.junctions (fields line.now)) (moved_to self.now Asks (Some (AskRead (ask_in (fields line.now))))) }
     {
-        let two = read_ask(line, self.junctions)?;
-        Ok(self.moved_to(Stage::Asks, Some(Event::Ask(two))))
+        let ask = read_ask(line, self.junctions)?;
+        Ok(self.moved_to(Stage::Asks, Some(Event::Ask(ask))))
     }
 
     // A `d` line.
     fn move_line(&self, line: &[u8]) -> Result<Step, LineFault>
-        ensures { result ≡ passed (d_checks self.now.junctions (fields line.now)) (moved_to self.now Tail (Some (Move (two_in (fields line.now))))) }
+        ensures { result ≡ passed (d_checks self.now.junctions (fields line.now)) (moved_to self.now Tail (Some (MoveRead (move_in (fields line.now))))) }
     {
-        let two = read_move(line, self.junctions)?;
-        Ok(self.moved_to(Stage::Tail, Some(Event::Move(two))))
+        let new = read_move(line, self.junctions)?;
+        Ok(self.moved_to(Stage::Tail, Some(Event::Move(new))))
     }
 
     // The next line: its fault, or the step that it makes.

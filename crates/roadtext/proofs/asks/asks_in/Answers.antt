@@ -1,5 +1,5 @@
 use Rattle.std.proofs.Common.{◌≡◌, List, Option, vec_items, sym, ap, ◌∙◌, subst, rules}
-use Rattle.roadtext.specs.declared.parts.Two.{Two}
+use Rattle.roadtext.specs.declared.parts.Ask.{Ask}
 use Rattle.roadtext.specs.declared.steps.Event.{Event}
 use Rattle.roadtext.specs.Reading.{nothing_read}
 use Rattle.roadtext.specs.Steps.{stepped, with_ask}
@@ -8,7 +8,7 @@ use Rattle.roadtext.proofs.Whole.{no_fault, all_read}
 use Rattle.roadtext.proofs.asks.asks_in.Goals as goal
 
 -- what is kept, of the asks that have been read
-kept : (e : Option Event) (after asks read : List Two) → asks ≡ read → after ≡ with_ask e asks → after ≡ with_ask e read
+kept : (e : Option Event) (after asks read : List Ask) → asks ≡ read → after ≡ with_ask e asks → after ≡ with_ask e read
 kept e after asks read h k = k ∙ ap (with_ask e) h
 
 pub loop-event-init : goal.loop-event-init
