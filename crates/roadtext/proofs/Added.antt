@@ -21,7 +21,7 @@ use Rattle.roadtext.specs.Steps.{Begun, Drawable, with_road, with_move}
 -- a call that answers has done what it says
 pub ends_ok : {A : Type 0} (v : Result Unit Refusal) (a : A) (same : Type 0) (done : A → Type 0) → Ends v (Ok a) same done → done a
 ends_ok (Ok u) a same done h = h
-ends_ok (Err x) a same done h = absurd (let e = h.0 in let q : ◌≡◌ {A = ℕ} 0 1 = cc in omega arith)
+ends_ok (Err x) a same done h = let e = h.0 in cc
 
 -- a call whose checks all pass is not refused
 ends_accepted : {A : Type 0} (cs : List Check) (x : Refusal) (same : Type 0) (done : A → Type 0) → AllByRecursion (λ c. c.fails ≡ false) cs → Ends (verdict cs) (Err x) same done → ⊥

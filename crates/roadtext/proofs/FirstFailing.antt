@@ -2,12 +2,9 @@
 use Rattle.std.proofs.Common.{◌≡◌, ℕ, true, false, ◌⊎◌, List, [], ◌∷◌, ◌++◌, Ok, Err, refl, ap, inl, inr, ⊎_elim}
 use Rattle.std.proofs.lemmas.Bool.{cases_Bool}
 use Rattle.roadtext.specs.declared.fault.Cause.{Cause}
-use Rattle.roadtext.specs.declared.parts.LineFault.{LineFault}
 use Rattle.roadtext.specs.Lines.{Check, passed}
 use Rattle.roadtext.specs.FirstFault.{AllPass, FailsFirst}
-
-abbrev pub fault_of : Check → LineFault
-fault_of c = record { field = c.field_number; cause = c.cause }
+use Rattle.roadtext.proofs.Passed.{fault_of}
 
 pub passed_where_all_pass : {A : Type 0} (cs : List Check) (x : A) → AllPass cs → passed cs x ≡ Ok x
 passed_where_all_pass [] x t = refl

@@ -45,7 +45,7 @@ module _ {A B : Type 0} (r : Result A B) where
   same_value x y p q = cc
 
   not_both : (x : A) (y : B) → r ≡ Ok x → r ≡ Err y → ⊥
-  not_both x y p q = let z : ◌≡◌ {A = ℕ} 0 1 = cc in omega arith
+  not_both x y p q = cc
 
 comment_or_not :
     (b : Bool) (l : ℕ) (cs : List Check) (x y : State)

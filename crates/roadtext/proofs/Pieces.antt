@@ -42,13 +42,13 @@ module _ (text : List ℕ) where
         lines_are = rw add-one (lines_cut text h);
         shorter = simp length-drop (omega arith);
       }))
-      (λ (h : length text ≤ end_of text). let p = no_end h in absurd (cc))
+      (λ (h : length text ≤ end_of text). let p = no_end h in cc)
       (cases_lt (end_of text) (length text))
 
   pub line_whole : 0 < length text → None ≡ position (λ b. eqb b 10) text → CutLine text text []
   line_whole some e =
       ⊎_elim
-      (λ (h : end_of text < length text). let p = place_of_end h in absurd (cc))
+      (λ (h : end_of text < length text). let p = place_of_end h in cc)
       (λ (h : length text ≤ end_of text). record { lines_are = all text some h; shorter = some })
       (cases_lt (end_of text) (length text))
     where

@@ -1,5 +1,5 @@
 -- After the `p` line the number of junctions stays, and the end of a text is what has been read. Assumes nothing.
-use Rattle.std.proofs.Common.{◌≡◌, ℕ, ◌+◌, Bool, true, false, cond, eqb, List, [], ◌∷◌, ◌++◌, IfOk, Ok, Err, Result, sym, refl, ap, ◌∙◌, subst, arith}
+use Rattle.std.proofs.Common.{◌≡◌, ℕ, ◌+◌, Bool, true, false, cond, eqb, List, [], ◌∷◌, ◌++◌, IfOk, Ok, Err, Result, sym, refl, ap, ◌∙◌, subst}
 use Rattle.measure.specs.Scale.{Scale}
 use Rattle.roadtext.specs.declared.fault.Fault.{Fault}
 use Rattle.roadtext.specs.declared.parts.Room.{Room}
@@ -39,7 +39,7 @@ after_stays st fs Asks h = (tt, refl)
 -- what holds of what a line gives
 at_line_gives : (l : ℕ) (q : Result State LineFault) (P : State → Type 0) (y : State) → IfOk q P → Ok y ≡ at_line l q → P y
 at_line_gives l (Ok x) P y h e = let same : x ≡ y = cc in subst P same h
-at_line_gives l (Err f) P y h e = absurd (let q : ◌≡◌ {A = ℕ} 0 1 = cc in omega arith)
+at_line_gives l (Err f) P y h e = cc
 
 module _ (s : Scale) (room : Room) where
   line_stays : (l : ℕ) (fs : List (List ℕ)) (st y : State) → Begun st.stage → Ok y ≡ read_line s room l fs st → Stays st y
@@ -55,9 +55,9 @@ module _ (s : Scale) (room : Room) where
 
   -- the end of a text without fault
   pub ended_ok : (l : ℕ) (st end : State) (g : Stage) → ended l st g ≡ Ok end → st ≡ end
-  ended_ok l st end Head e = absurd (let q : ◌≡◌ {A = ℕ} 0 1 = cc in omega arith)
-  ended_ok l st end (ArcAwaited k) e = absurd (let q : ◌≡◌ {A = ℕ} 0 1 = cc in omega arith)
-  ended_ok l st end (Twin a k) e = absurd (let q : ◌≡◌ {A = ℕ} 0 1 = cc in omega arith)
+  ended_ok l st end Head e = cc
+  ended_ok l st end (ArcAwaited k) e = cc
+  ended_ok l st end (Twin a k) e = cc
   ended_ok l st end Tail e = cc
   ended_ok l st end Asks e = cc
 
@@ -67,4 +67,4 @@ module _ (s : Scale) (room : Room) where
     where
       next : ((y : State) → Begun y.stage → read_lines s room (l + 1) ls y ≡ Ok end → end.junctions ≡ y.junctions) → (r : Result State Fault) → r ≡ read_line s room l (fields line) st → then_lines (read_lines s room (l + 1) ls) r ≡ Ok end → end.junctions ≡ st.junctions
       next more (Ok y) k e = let there = line_stays l (fields line) st y h k in more y there.0 e ∙ there.1
-      next more (Err f) k e = absurd (let q : ◌≡◌ {A = ℕ} 0 1 = cc in omega arith)
+      next more (Err f) k e = cc

@@ -16,7 +16,7 @@ use Rattle.roadtext.specs.Text.{letter_of}
 use Rattle.roadtext.specs.Lines.{Check, passed, p_checks, a_checks, d_checks, q_checks, head_in, arc_in, move_in, ask_in, number_at}
 use Rattle.roadtext.specs.Reading.{State, at_line, read_line, line_checks, after_line, has_letter, letter_check, arcs_to_come_lem}
 use Rattle.roadtext.specs.Steps.{Steps, progress_of, stepped, stepped_by, moved_to, head_step, arc_step, twin_checks, twin_step, Startable, Begun, Counted, Drawable}
-use Rattle.roadtext.proofs.Passed.{passed_gives, each_passes}
+use Rattle.roadtext.proofs.Passed.{fault_of, passed_gives, each_passes}
 use Rattle.roadtext.proofs.Letters.{letter_is, in_place}
 use Rattle.roadtext.proofs.Allowed.{twin_addable, move_movable}
 
@@ -25,7 +25,7 @@ pub stepped_passed : (st : State) (cs : List Check) (t : Step) → stepped_by st
 stepped_passed st [] t = refl
 stepped_passed st (c ∷ cs) t =
     elim c.fails
-    as (λ b. stepped_by st (cond b (Err (record { field = c.field_number; cause = c.cause })) (passed cs t)) ≡ cond b (Err (record { field = c.field_number; cause = c.cause })) (passed cs (stepped st t)))
+    as (λ b. stepped_by st (cond b (Err (fault_of c)) (passed cs t)) ≡ cond b (Err (fault_of c)) (passed cs (stepped st t)))
     [ true ↦ refl | false ↦ stepped_passed st cs t ]
 
 -- arcs to come, or none: it is after the `p` line

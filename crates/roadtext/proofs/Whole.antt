@@ -1,5 +1,5 @@
 -- A text without fault, drawn line by line: no line is refused, and at the end all of it is drawn. Assumes nothing.
-use Rattle.std.proofs.Common.{◌≡◌, ℕ, ◌≤◌, true, false, cond, ltb, List, [], length, Some, None, Option, Ok, Err, Result, MatchResult, IfOk, sym, refl, ap, ◌∙◌, subst, arith}
+use Rattle.std.proofs.Common.{◌≡◌, ℕ, ◌≤◌, true, false, cond, ltb, List, [], length, Some, None, Option, Ok, Err, Result, IfOk, sym, refl, ap, ◌∙◌, subst, arith}
 use Rattle.std.proofs.lemmas.Bool.{le-ltb}
 use Rattle.std.proofs.lemmas.Bool.Decides.{nat_tests}
 use Rattle.measure.specs.Scale.{Scale}
@@ -16,7 +16,7 @@ use Rattle.roadtext.specs.declared.parts.Stage.TheVariants.{Head, Arc as ArcAwai
 use Rattle.roadtext.specs.declared.steps.Progress.{Progress}
 use Rattle.roadtext.specs.declared.steps.Event.{Event}
 use Rattle.roadtext.specs.declared.walk.Walk.{Walk}
-use Rattle.roadtext.specs.Drawn.{DrawsEvent, DrawsText}
+use Rattle.roadtext.specs.Drawn.{DrawsEvent}
 use Rattle.roadtext.specs.Read.{Draws, AddsAll, MovesAll, room_of}
 use Rattle.roadtext.specs.declared.fault.Fault.{Fault}
 use Rattle.roadtext.specs.Checked.{junctions_read, ended_at}
@@ -33,7 +33,7 @@ pub lines_of_text : (s : Scale) (room : Room) (text : List ℕ) (st : State) →
 lines_of_text s room text st h =
     elim (ltb 65536 (length text))
     as (λ b. cond b (Err (fault 0 0 TooLong)) (read_lines s room 1 (lines text) nothing_read) ≡ Ok st → read_lines s room 1 (lines text) nothing_read ≡ Ok st)
-    [ true ↦ λ e. absurd (let q : ◌≡◌ {A = ℕ} 0 1 = cc in omega arith) | false ↦ λ e. e ]
+    [ true ↦ λ e. cc | false ↦ λ e. e ]
     h
 
 -- a drawing that was started, before the first line
@@ -52,7 +52,7 @@ started_far s n blank fresh cleared table h =
 module _ {M : Type 0} {s : Scale} {room : Room} {text : List ℕ} {w : Walk M} {st : State} (here : Midway s room text w st) (end : State) (good : read_text s room text ≡ Ok end) where
   -- a walk over a text without fault meets none
   pub no_fault : {item : Result (Option Event) Fault} (v : Walk M) → WalkGives s w (Some item) v → (f : Fault) → item ≡ Err f → ⊥
-  no_fault v h f e = let a = lines_of_text s room text end good in let b = midway_fault here v h f e in let q : ◌≡◌ {A = ℕ} 0 1 = cc in omega arith
+  no_fault v h f e = let a = lines_of_text s room text end good in let b = midway_fault here v h f e in cc
 
   -- at its end all has been read
   pub all_read : (v : Walk M) → WalkGives s w None v → st ≡ end
@@ -124,13 +124,3 @@ module _ {M : Type 0} {s : Scale} {text : List ℕ} {n : ℕ} (blank : List Junc
         subst (λ q. AddsAll s fresh unused q.roads d table) last far.adds,
         subst (λ q. MovesAll d cleared q.moves junctions) last far.moved,
       )
-
--- the number of junctions that a text without fault has been found to have, and its drawing, which is not refused
-pub read_in_full : (s : Scale) (text : List ℕ) (n : ℕ) (blank : List Junction) (unused : List Road) (r : Result Rest Refusal) (junctions : List Junction) (table : List Road)
-    → Ok n ≡ junctions_read (read_text s (room_of blank unused) text) → Startable (length blank) n → DrawsText s text n blank unused r junctions table
-    → (st : State) × (read_text s (room_of blank unused) text ≡ Ok st) × MatchResult r (λ d. Draws s st blank unused d junctions table) (λ _. ⊥)
-read_in_full s text n blank unused r junctions table count can drawn = by (read_text s (room_of blank unused) text) refl count
-  where
-    by : (q : Result State Fault) → read_text s (room_of blank unused) text ≡ q → Ok n ≡ junctions_read q → (st : State) × (read_text s (room_of blank unused) text ≡ Ok st) × MatchResult r (λ d. Draws s st blank unused d junctions table) (λ _. ⊥)
-    by (Ok st) e h = let same : st.junctions ≡ n = cc in (st, e, drawn st e same can)
-    by (Err f) e h = absurd (cc)

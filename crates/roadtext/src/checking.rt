@@ -1,30 +1,16 @@
 // Checking a text: every line is looked at, and nothing is drawn.
 ghost use Rattle.std.specs.Prelude.{◌≡◌, IfOk};
-ghost use Rattle.roadtext.specs.Checked.{junctions_read, ended_at};
+ghost use Rattle.roadtext.specs.Checked.{junctions_read};
 ghost use Rattle.roadtext.specs.Reading.{read_text};
 ghost use Rattle.roadtext.specs.Steps.{Startable};
 
 use super::fault::{Cause, Fault};
-use super::parts::{Room, Stage};
+use super::parts::Room;
 use super::walk::Walk;
 use measure::Measure;
 
 // A text has at most so many bytes.
 const MOST_BYTES: usize = 65_536;
-
-// The end of a text, at this stage and with so many junctions, where this is the number of the line after the last.
-fn ended(number: u64, junctions: u64, stage: Stage) -> Result<u64, Fault>
-    ensures { result ≡ ended_at number junctions stage }
-{
-    match stage {
-        Stage::Tail | Stage::Asks => Ok(junctions),
-        _ => Err(Fault {
-            line: number,
-            field: 1,
-            cause: Cause::Letter,
-        }),
-    }
-}
 
 // Checks a road text for tables with this room: the number of its junctions, or its first fault.
 pub fn check<M: Measure>(text: &[u8], room: Room) -> Result<u64, Fault>
@@ -43,5 +29,5 @@ pub fn check<M: Measure>(text: &[u8], room: Room) -> Result<u64, Fault>
     while let Some(event) = walk.next() {
         event?;
     }
-    ended(walk.number, walk.progress.junctions, walk.progress.stage)
+    walk.ended()
 }

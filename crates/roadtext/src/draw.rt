@@ -35,6 +35,7 @@ pub(crate) fn draw<M: Measure>(
 ) -> Result<Rest, Refusal>
     ensures { DrawsText M.Measure.scale text.now count junctions.old roads.old result junctions.new roads.new }
 {
+    // written out here and in `read`: a function for it leaves that proof open (tried)
     let room = Room {
         places: junctions.len() as u64,
         records: roads.len() as u64,

@@ -26,7 +26,9 @@ pub fn read<M: Measure>(
     };
     let count = check::<M>(text, room)?;
     let asks = asks_in::<M>(heap, text, room)?;
-    // a text without fault is drawn, and nothing in it refused
-    let drawing = draw::<M>(text, count, junctions, roads).unwrap();
+    let Ok(drawing) = draw::<M>(text, count, junctions, roads) else {
+        // nothing is refused in a text without fault
+        unreachable!()
+    };
     Ok(Reading { drawing, asks })
 }

@@ -1,11 +1,12 @@
 // A walk over the lines of a text, which every reading of a text is.
 ghost use Rattle.std.specs.Prelude.{◌≡◌, ◌+◌, ◌<◌, ◌^◌, length};
 ghost use Rattle.std.specs.Iterator.{at_most};
+ghost use Rattle.roadtext.specs.Checked.{ended_at};
 ghost use Rattle.roadtext.specs.Reading.{nothing_read};
 ghost use Rattle.roadtext.specs.Steps.{progress_of};
 ghost use Rattle.roadtext.specs.Walked.{WalkGives};
 
-use super::fault::Fault;
+use super::fault::{Cause, Fault};
 use super::lines::cut_line;
 use super::parts::{Room, Stage};
 use super::steps::{Event, Progress};
@@ -15,9 +16,9 @@ use std::marker::PhantomData;
 // How far a walk has come: what has been read, the number of the next line, and the text that is left.
 #[derive(Drop)]
 pub(crate) struct Walk<'a, M> {
-    pub(crate) progress: Progress,
-    pub(crate) number: u64,
-    pub(crate) rest: &'a [u8],
+    progress: Progress,
+    number: u64,
+    rest: &'a [u8],
     measure: PhantomData<M>,
 }
 
@@ -38,6 +39,21 @@ impl<'a, M: Measure> Walk<'a, M> {
             number: 1,
             rest: text,
             measure: PhantomData,
+        }
+    }
+
+    // The end of the text, where no line is left: the number of its junctions, or the fault of an end while a `p` line or an arc
+    // is awaited.
+    pub(crate) fn ended(&self) -> Result<u64, Fault>
+        ensures { result ≡ ended_at self.now.number self.now.progress.junctions self.now.progress.stage }
+    {
+        match self.progress.stage {
+            Stage::Tail | Stage::Asks => Ok(self.progress.junctions),
+            _ => Err(Fault {
+                line: self.number,
+                field: 1,
+                cause: Cause::Letter,
+            }),
         }
     }
 }
