@@ -15,7 +15,7 @@ pub struct Reading {
 }
 
 // Why a text was not read: it is refused with its first fault, or there was no memory for what it says.
-#[derive(Drop)]
+#[derive(Clone, Copy, PartialEq, Eq, Debug)]
 pub enum Unread {
     Refused(Fault),
     Memory,

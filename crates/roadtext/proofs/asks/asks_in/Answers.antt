@@ -4,7 +4,6 @@ use Rattle.roadtext.specs.declared.steps.Event.{Event}
 use Rattle.roadtext.specs.Reading.{nothing_read}
 use Rattle.roadtext.specs.Steps.{stepped, with_ask}
 use Rattle.roadtext.proofs.Midway.{Midway, midway_start, midway_on}
-use Rattle.roadtext.proofs.Whole.{no_fault, all_read}
 use Rattle.roadtext.proofs.asks.asks_in.Goals as goal
 
 -- what is kept, of the asks that have been read
@@ -31,13 +30,3 @@ loop-event-preserved g c =
       midway_on inv.3 c.next.new.self c.in-Some.ensures.steps c.in-Ok.event c.in-Ok.is,
       kept c.in-Ok.event (vec_items c.keep.new.asks) (vec_items c.loop-event.asks) inv.2.asks inv.4 c.in_ok-keep.ensures,
     )
-
-pub returns-in_default : goal.returns-in_default
-returns-in_default g c st good =
-    let inv = c.loop-event.invariant in
-    absurd (no_fault inv.3 st good c.next.new.self c.in-Some.ensures.steps c.in_default.field-0 c.in_default.is)
-
-pub returns : goal.returns
-returns g c st good =
-    let inv = c.loop-event.invariant in
-    inv.4 ∙ ap (λ q. q.asks) (all_read inv.3 st good c.next.new.self c.in-None.ensures.steps)

@@ -1,8 +1,7 @@
-use Rattle.std.proofs.Common.{◌≡◌, Ok, IfOk, ◌∙◌, sym, subst, rules}
+use Rattle.std.proofs.Common.{◌≡◌, Ok, sym, subst, rules}
 use Rattle.roadtext.specs.Reading.{nothing_read}
-use Rattle.roadtext.specs.Steps.{Counted, Startable, stepped}
+use Rattle.roadtext.specs.Steps.{Counted, stepped}
 use Rattle.roadtext.proofs.Midway.{midway_start, midway_on, midway_counted}
-use Rattle.roadtext.proofs.Whole.{walked_reads, walked_counts}
 use Rattle.roadtext.proofs.checking.check.Goals as goal
 
 pub loop-event-init : goal.loop-event-init
@@ -23,12 +22,3 @@ loop-event-preserved g c =
       midway_on inv.2 c.next.new.self c.in-Some.ensures.steps c.in_ok-event.field-0 fine,
       midway_counted inv.2 c.next.new.self c.in-Some.ensures.steps c.in_ok-event.field-0 fine inv.3,
     )
-
-pub returns-clause-reads : goal.returns-clause-reads
-returns-clause-reads g c =
-    c.ended.ensures ∙ walked_reads c.loop-event.invariant.2 c.next.new.self c.in_default.ensures.steps c.if-text-gt-MOST_BYTES.false
-
-pub returns-clause-counts : goal.returns-clause-counts
-returns-clause-counts g c =
-    subst (λ r. IfOk r (λ n. Startable c.args.room.places n)) (sym c.ended.ensures)
-    (walked_counts c.loop-event.invariant.2 c.next.new.self c.in_default.ensures.steps c.loop-event.invariant.3)

@@ -4,7 +4,7 @@ use Rattle.roadtext.specs.Read.{room_of}
 use Rattle.roadtext.specs.Steps.{stepped}
 use Rattle.roadtext.proofs.Added.{event_far}
 use Rattle.roadtext.proofs.Midway.{Midway, midway_start, midway_on}
-use Rattle.roadtext.proofs.Whole.{started_far, no_fault, line_accepted, all_drawn}
+use Rattle.roadtext.proofs.Whole.{started_far, line_accepted, all_drawn}
 use Rattle.roadtext.proofs.draw.draw.Goals as goal
 
 pub loop-event-init : goal.loop-event-init
@@ -18,10 +18,6 @@ loop-event-init g c =
           (midway_start g.M.Measure.scale room c.args.text.now c.over-event-items.result w.progress w.number w.rest),
       started_far g.M.Measure.scale c.args.count c.args.junctions.now c.in_ok-drawing.drawing c.start.new.junctions c.args.roads.now c.in_ok-drawing.ensures,
     )
-
-pub returns-in_default : goal.returns-in_default
-returns-in_default g c st good count can =
-    absurd (no_fault c.loop-event.invariant.3 st good c.next.new.self c.in-Some.ensures.steps c.in_default.field-0 c.in_default.is)
 
 pub returns-in_err-draw_event : goal.returns-in_err-draw_event
 returns-in_err-draw_event g c st good count can =

@@ -1,7 +1,7 @@
 -- Each digit read makes ten of one and adds itself. Assumes nothing.
 use Rattle.std.proofs.Common.{◌≡◌, true, false, get_or, arith}
 use Rattle.drawing.specs.Edits.{within}
-use Rattle.roadtext.proofs.Numbers.{no_number_here, digit_read, digits_on, number_done, power_on, digits_fit, digit_range}
+use Rattle.roadtext.proofs.Numbers.{no_number_here, digit_read, digits_on, power_on, digits_fit, digit_range}
 use Rattle.roadtext.proofs.fields.read_digits.Goals as goal
 
 pub overflow_mul-n : goal.overflow_mul-n
@@ -26,7 +26,3 @@ loop-b-preserved c =
       digits_on c.args.text.now c.loop-b.b-index c.loop-b.n c.loop-b.invariant.0 c.loop-b.invariant.1 c.loop-b-test.true digit,
       power_on c.loop-b.n c.from.result c.loop-b.b-index c.loop-b.invariant.2 (omega arith),
     )
-
-pub returns : goal.returns
-returns c =
-    number_done c.args.text.now c.loop-b.b-index c.loop-b.n c.loop-b.invariant.0 c.loop-b.invariant.1 c.loop-b-test.false

@@ -1,12 +1,8 @@
 -- The first line ends at the first byte 10. Assumes nothing.
-use Rattle.std.proofs.Common.{ap, rules}
-use Rattle.std.proofs.lemmas.List.{nil_from_length, take_rest}
-use Rattle.roadtext.specs.Text.{lines}
+use Rattle.std.proofs.Common.{rules}
+use Rattle.std.proofs.lemmas.List.{take_rest}
 use Rattle.roadtext.proofs.Pieces.{line_cut, line_whole}
 use Rattle.roadtext.proofs.lines.cut_line.Goals as goal
-
-pub returns-then-is_empty : goal.returns-then-is_empty
-returns-then-is_empty c = ap lines (nil_from_length c.args.text.now (search rules))
 
 pub returns-in-None : goal.returns-in-None
 returns-in-None c = line_whole c.args.text.now (search rules) c.in-None.ensures

@@ -31,8 +31,7 @@ returns-in_err-second g c =
     let ds = road_checks p c.args.first (arc_in fs) in
     let z = twin_step p c.args.first c.args.left in
     let f = c.in_err-second.field-0.0 in
-    passed_on c.from_residual.result f c.from_residual.ensures.1
-    ∙ fails_first cs ds (arc_in fs) z f c.in_err-second.ensures
+    passed_on c.from_residual.result f c.from_residual.ensures.1 ∙ fails_first cs ds (arc_in fs) z f c.in_err-second.ensures
 
 pub returns-in_err-check_twin : goal.returns-in_err-check_twin
 returns-in_err-check_twin g c =
