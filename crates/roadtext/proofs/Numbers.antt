@@ -1,8 +1,8 @@
 -- The number that digits write, one digit on. Assumes nothing.
-use Rattle.std.proofs.Common.{◌≡◌, ℕ, ◌+◌, ◌-◌, ◌*◌, ◌^◌, ◌<◌, ◌≤◌, Bool, true, false, cond, ◌&&◌, leb, List, length, get_or, drop, Some, None, sym, ap, ◌∙◌, add-one, arith, lit<}
+use Rattle.std.proofs.Common.{◌≡◌, ℕ, ◌+◌, ◌-◌, ◌*◌, ◌^◌, ◌<◌, ◌≤◌, Bool, true, false, cond, ◌&&◌, List, length, get_or, drop, Some, None, sym, ap, ◌∙◌, add-one, arith, lit<}
 use native.Mathlib.Nat.{pow-succ', pow-le-pow_right}
 use Rattle.std.proofs.lemmas.List.{at_drop_more, at_drop_all}
-use Rattle.std.proofs.lemmas.Bool.{and_left, and_parts, leb-true, cond-true, cond-false}
+use Rattle.std.proofs.lemmas.Bool.{and_left, cond-true, cond-false}
 use Rattle.drawing.specs.Edits.{within}
 use Rattle.roadtext.specs.Text.{all_digits, digits_after}
 
@@ -28,10 +28,6 @@ module _ (text : List ℕ) (i n : ℕ) (so_far : digits_after n (drop i text) �
       let only : all_digits text ≡ true = sym all ∙ at_drop_all all_digits text i h in
       ap Some (sym (at_drop_all (digits_after n) text i h) ∙ so_far)
       ∙ sym (cond-true (all_digits text) (Some (digits_after 0 text)) None only)
-
--- a digit stands for 0 to 9
-pub digit_range : (b : ℕ) → within 48 57 b ≡ true → (48 ≤ b) × (b ≤ 57)
-digit_range b e = let t = and_parts (leb 48 b) (leb b 57) e in (leb-true 48 b t.0, leb-true b 57 t.1)
 
 -- one digit more keeps the number below the next power of ten
 pub power_on : (n d i : ℕ) → n < 10 ^ i → d ≤ 9 → 10 * n + d < 10 ^ (i + 1)

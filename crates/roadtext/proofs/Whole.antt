@@ -1,7 +1,6 @@
 -- A text without fault, drawn line by line: no line is refused, and at the end all of it is drawn. Assumes nothing.
-use Rattle.std.proofs.Common.{◌≡◌, ℕ, ◌≤◌, true, false, cond, ltb, List, [], length, Some, None, Option, Ok, Err, Result, IfOk, sym, refl, ap, ◌∙◌, subst, arith}
-use Rattle.std.proofs.lemmas.Bool.{le-ltb}
-use Rattle.std.proofs.lemmas.Bool.Decides.{nat_tests}
+use Rattle.std.proofs.Common.{◌≡◌, ℕ, ◌≤◌, true, false, cond, ltb, List, [], length, Some, None, Option, Ok, Err, Result, IfOk, sym, refl, ap, ◌∙◌, subst}
+use Rattle.std.proofs.lemmas.Bool.{le-ltb, ltb-false}
 use Rattle.measure.specs.Scale.{Scale}
 use Rattle.drawing.specs.Outcomes.{verdict}
 use Rattle.drawing.specs.Edits.{Fresh, StartsWithNoRoad, start_checks, all_in_district_0}
@@ -99,7 +98,7 @@ module _ {M : Type 0} {s : Scale} {text : List ℕ} {n : ℕ} (blank : List Junc
       let h = subst (λ r. WalkGives s w (Some r) v) is gives in
       let whole : read_lines s (room_of blank unused) w.number (lines w.rest.now) st ≡ Ok end = here.left ∙ lines_of_text s (room_of blank unused) text end good in
       let same = here.came in
-      let fits : n ≤ length junctions = rw long (in_table n (length blank) can.in_table) in
+      let fits : n ≤ length junctions = rw long (ltb-false (length blank) n can.in_table) in
       never_refused s n fresh cleared unused st.roads st.moves d junctions table far w.progress event h.3.draws
       (λ b. sym (ap (λ q. q.junctions) same) ∙ (sym (junctions_stay s (room_of blank unused) w.number (lines w.rest.now) st end (subst (λ q. Begun q.stage) (sym same) b) whole) ∙ count))
       (sym (ap (λ q. q.roads) same))
@@ -110,9 +109,6 @@ module _ {M : Type 0} {s : Scale} {text : List ℕ} {n : ℕ} (blank : List Junc
       then
       after
       draws
-    where
-      in_table : (n size : ℕ) → ltb size n ≡ false → n ≤ size
-      in_table n size h = grind (arith, nat_tests)
 
   -- at the end all of it is drawn
   pub all_drawn : (v : Walk M) → WalkGives s w None v → StartsWithNoRoad s n 64 blank (Ok fresh) cleared → Draws s end blank unused d junctions table
