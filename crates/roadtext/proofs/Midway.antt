@@ -1,5 +1,5 @@
 -- Midway through a text: what has been read, what is left, and what one more line brings. Assumes nothing.
-use Rattle.std.proofs.Common.{◌≡◌, ℕ, ◌+◌, List, Some, None, Option, Ok, Err, Result, sym, ap, ◌∙◌, subst}
+use Rattle.std.proofs.Common.{◌≡◌, ℕ, ◌+◌, List, Some, None, Option, Ok, Result, sym, ap, ◌∙◌, subst}
 use Rattle.measure.specs.Scale.{Scale}
 use Rattle.roadtext.specs.declared.fault.Fault.{Fault}
 use Rattle.roadtext.specs.declared.parts.Room.{Room}
@@ -42,13 +42,6 @@ module _ {M : Type 0} {s : Scale} {room : Room} {text : List ℕ} {w : Walk M} {
     -- after the `p` line a drawing with as many junctions can be started, and still so one line on
     pub midway_counted : (event : Option Event) → item ≡ Ok event → Counted w.progress w.progress.stage → Counted v.progress v.progress.stage
     midway_counted event e counted = let h = subst (λ r. WalkGives s w (Some r) v) e gives in h.3.counts counted
-
-    -- the fault of the line here is that of the text
-    pub midway_fault : (f : Fault) → item ≡ Err f → read_lines s room 1 (lines text) nothing_read ≡ Err f
-    midway_fault f e =
-        let h = subst (λ r. WalkGives s w (Some r) v) e gives in
-        sym (first_line h.1) ∙ ap (then_lines (read_lines s room (w.number + 1) (lines v.rest.now))) (h.4.read room st here.came w.number)
-        ∙ ap Err (sym h.5)
 
   -- where no line is left, the end of the text decides
   pub midway_end : (v : Walk M) → WalkGives s w None v → read_lines s room 1 (lines text) nothing_read ≡ ended w.number st st.stage

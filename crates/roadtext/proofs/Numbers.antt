@@ -1,8 +1,8 @@
 -- The number that digits write, one digit on. Assumes nothing.
 use Rattle.std.proofs.Common.{◌≡◌, ℕ, ◌+◌, ◌-◌, ◌*◌, ◌^◌, ◌<◌, ◌≤◌, Bool, true, false, cond, ◌&&◌, List, length, get_or, drop, Some, None, sym, ap, ◌∙◌, add-one, arith, lit<}
 use native.Mathlib.Nat.{pow-succ', pow-le-pow_right}
-use Rattle.std.proofs.lemmas.List.{at_drop_more, at_drop_all}
-use Rattle.std.proofs.lemmas.Bool.{and_left, cond-true, cond-false}
+use Rattle.std.proofs.lemmas.List.{at_drop_more}
+use Rattle.std.proofs.lemmas.Bool.{and_left, cond-false}
 use Rattle.drawing.specs.Edits.{within}
 use Rattle.roadtext.specs.Text.{all_digits, digits_after}
 
@@ -21,13 +21,6 @@ module _ (text : List ℕ) (i n : ℕ) (so_far : digits_after n (drop i text) �
 
   pub digits_on : i < length text → within 48 57 (get_or text i 0) ≡ true → all_digits (drop (i + 1) text) ≡ all_digits text
   digits_on h e = sym (at_drop_more all_digits text i 0 h ∙ ap (λ (b : Bool). b && all_digits (drop (i + 1) text)) e) ∙ all
-
-  -- at the end the number is what all of them write
-  pub number_done : length text ≤ i → Some n ≡ cond (all_digits text) (Some (digits_after 0 text)) None
-  number_done h =
-      let only : all_digits text ≡ true = sym all ∙ at_drop_all all_digits text i h in
-      ap Some (sym (at_drop_all (digits_after n) text i h) ∙ so_far)
-      ∙ sym (cond-true (all_digits text) (Some (digits_after 0 text)) None only)
 
 -- one digit more keeps the number below the next power of ten
 pub power_on : (n d i : ℕ) → n < 10 ^ i → d ≤ 9 → 10 * n + d < 10 ^ (i + 1)

@@ -1,6 +1,6 @@
 -- A text without fault, drawn line by line: no line is refused, and at the end all of it is drawn. Assumes nothing.
-use Rattle.std.proofs.Common.{◌≡◌, ℕ, ◌≤◌, true, false, cond, ltb, List, [], length, Some, None, Option, Ok, Err, Result, IfOk, sym, refl, ap, ◌∙◌, subst}
-use Rattle.std.proofs.lemmas.Bool.{le-ltb, ltb-false}
+use Rattle.std.proofs.Common.{◌≡◌, ℕ, ◌≤◌, true, false, cond, ltb, List, [], length, Some, None, Option, Ok, Err, Result, sym, refl, ap, ◌∙◌, subst}
+use Rattle.std.proofs.lemmas.Bool.{ltb-false}
 use Rattle.measure.specs.Scale.{Scale}
 use Rattle.drawing.specs.Outcomes.{verdict}
 use Rattle.drawing.specs.Edits.{Fresh, StartsWithNoRoad, start_checks, all_in_district_0}
@@ -10,21 +10,17 @@ use Rattle.drawing.specs.declared.tables.Junction.{Junction}
 use Rattle.drawing.specs.declared.tables.Road.{Road}
 use Rattle.roadtext.specs.declared.fault.Cause.TheVariants.{TooLong}
 use Rattle.roadtext.specs.declared.parts.Room.{Room}
-use Rattle.roadtext.specs.declared.parts.Stage.{Stage}
-use Rattle.roadtext.specs.declared.parts.Stage.TheVariants.{Head, Arc as ArcAwaited, Twin, Tail, Asks}
-use Rattle.roadtext.specs.declared.steps.Progress.{Progress}
 use Rattle.roadtext.specs.declared.steps.Event.{Event}
 use Rattle.roadtext.specs.declared.walk.Walk.{Walk}
 use Rattle.roadtext.specs.Drawn.{DrawsEvent}
 use Rattle.roadtext.specs.Read.{Draws, AddsAll, MovesAll, room_of}
 use Rattle.roadtext.specs.declared.fault.Fault.{Fault}
-use Rattle.roadtext.specs.Checked.{junctions_read, ended_at}
-use Rattle.roadtext.specs.Reading.{State, fault, nothing_read, read_lines, read_text, ended}
-use Rattle.roadtext.specs.Steps.{Startable, Begun, Counted}
+use Rattle.roadtext.specs.Reading.{State, fault, nothing_read, read_lines, read_text}
+use Rattle.roadtext.specs.Steps.{Startable, Begun}
 use Rattle.roadtext.specs.Walked.{WalkGives}
 use Rattle.roadtext.specs.Text.{lines}
 use Rattle.roadtext.proofs.Added.{SoFar, ends_ok, never_refused}
-use Rattle.roadtext.proofs.Midway.{Midway, midway_end, midway_fault}
+use Rattle.roadtext.proofs.Midway.{Midway, midway_end}
 use Rattle.roadtext.proofs.Stays.{ended_ok, junctions_stay}
 
 -- a text that is read is not too long, so its lines are read
@@ -49,43 +45,9 @@ started_far s n blank fresh cleared table h =
     }
 
 module _ {M : Type 0} {s : Scale} {room : Room} {text : List ℕ} {w : Walk M} {st : State} (here : Midway s room text w st) (end : State) (good : read_text s room text ≡ Ok end) where
-  -- a walk over a text without fault meets none
-  pub no_fault : {item : Result (Option Event) Fault} (v : Walk M) → WalkGives s w (Some item) v → (f : Fault) → item ≡ Err f → ⊥
-  no_fault v h f e = let a = lines_of_text s room text end good in let b = midway_fault here v h f e in cc
-
   -- at its end all has been read
   pub all_read : (v : Walk M) → WalkGives s w None v → st ≡ end
   all_read v e = ended_ok s room w.number st end st.stage (sym (midway_end here v e) ∙ lines_of_text s room text end good)
-
-ended_reads : (l : ℕ) (st : State) (g : Stage) → ended_at l st.junctions g ≡ junctions_read (ended l st g)
-ended_reads l st Head = refl
-ended_reads l st (ArcAwaited k) = refl
-ended_reads l st (Twin a k) = refl
-ended_reads l st Tail = refl
-ended_reads l st Asks = refl
-
-ended_counts : (l : ℕ) (p : Progress) (g : Stage) → Counted p g → IfOk (ended_at l p.junctions g) (λ n. Startable p.room.places n)
-ended_counts l p Head h = tt
-ended_counts l p (ArcAwaited k) h = tt
-ended_counts l p (Twin a k) h = tt
-ended_counts l p Tail h = h
-ended_counts l p Asks h = h
-
--- where no line is left, the end of the walk says what reading the text gives
-module _ {M : Type 0} {s : Scale} {room : Room} {text : List ℕ} {w : Walk M} {st : State} (here : Midway s room text w st) (v : Walk M) (gives : WalkGives s w None v) where
-  pub walked_reads : length text ≤ 65536 → ended_at v.number v.progress.junctions v.progress.stage ≡ junctions_read (read_text s room text)
-  walked_reads short =
-      ap (λ (q : Walk M). ended_at q.number q.progress.junctions q.progress.stage) gives.1
-      ∙ ap (λ p. ended_at w.number p.junctions p.stage) (sym here.came)
-      ∙ ended_reads w.number st st.stage
-      ∙ ap junctions_read (sym (midway_end here v gives))
-      ∙ ap (λ b. junctions_read (cond b (Err (fault 0 0 TooLong)) (read_lines s room 1 (lines text) nothing_read))) (sym (le-ltb 65536 (length text) short))
-
-  pub walked_counts : Counted w.progress w.progress.stage → IfOk (ended_at v.number v.progress.junctions v.progress.stage) (λ n. Startable room.places n)
-  walked_counts counted =
-      subst (λ (q : Walk M). IfOk (ended_at q.number q.progress.junctions q.progress.stage) (λ n. Startable room.places n)) (sym gives.1)
-      (subst (λ r. IfOk (ended_at w.number w.progress.junctions w.progress.stage) (λ n. Startable r.places n)) (sym (ap (λ p. p.room) here.came))
-      (ended_counts w.number w.progress w.progress.stage counted))
 
 module _ {M : Type 0} {s : Scale} {text : List ℕ} {n : ℕ} (blank : List Junction) (unused : List Road) {w : Walk M} {st : State} (here : Midway s (room_of blank unused) text w st) (end : State)
     (good : read_text s (room_of blank unused) text ≡ Ok end) (count : end.junctions ≡ n)
