@@ -6,9 +6,8 @@ use drawing::{Junction, Mark, Road};
 use measure::Metres;
 use roadtext::{Reading, Unread, read};
 use std::alloc::Global;
-use std::fmt;
-use std::io;
 use std::io::Read;
+use std::{fmt, io};
 
 // The entries of each table.
 const ENTRIES: usize = 8_192;
