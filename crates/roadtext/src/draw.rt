@@ -21,7 +21,7 @@ fn draw_event<M: Measure>(
             drawing.add::<M>(roads, arc.from, arc.to, arc.worth)?;
             Ok(())
         }
-        Some(Event::Move(new)) => drawing.assign(junctions, new.junction, new.district),
+        Some(Event::Move(moved)) => drawing.assign(junctions, moved.junction, moved.district),
         None | Some(Event::Ask(_)) => Ok(()),
     }
 }

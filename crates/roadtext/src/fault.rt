@@ -8,15 +8,15 @@ use std::fmt;
 // What is wrong with a text.
 #[derive(Clone, Copy, PartialEq, Eq, Debug)]
 pub enum Cause {
-    // a letter is out of place
+    // a letter out of place
     Letter,
-    // a field is missing, malformed or too many
+    // a field that is missing, malformed or too many
     Field,
-    // an arc has no twin, or the arcs are odd in number
+    // an arc without its twin, or an odd number of arcs
     Twin,
-    // the text is too long
+    // a text that is too long
     TooLong,
-    // the drawing refuses what a line says
+    // what the drawing refuses
     Drawing(Refusal),
 }
 

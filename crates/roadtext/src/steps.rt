@@ -138,8 +138,8 @@ impl Progress {
     fn move_line(&self, line: &[u8]) -> Result<Step, LineFault>
         ensures { result ≡ passed (d_checks self.now.junctions (fields line.now)) (moved_to self.now Tail (Some (MoveRead (move_in (fields line.now))))) }
     {
-        let new = read_move(line, self.junctions)?;
-        Ok(self.moved_to(Stage::Tail, Some(Event::Move(new))))
+        let moved = read_move(line, self.junctions)?;
+        Ok(self.moved_to(Stage::Tail, Some(Event::Move(moved))))
     }
 
     // The next line: its fault, or the step that it makes.
