@@ -3,7 +3,7 @@ use Rattle.std.specs.Prelude.{ℕ, List, [], ◌∷◌, ◌++◌, decimal}
 use Rattle.drawing.specs.declared.refusal.Table.{Table}
 use Rattle.drawing.specs.declared.refusal.Table.TheVariants.{Junctions, Roads, Book}
 use Rattle.drawing.specs.declared.refusal.Refusal.{Refusal}
-use Rattle.drawing.specs.declared.refusal.Refusal.TheVariants.{OtherMeasure, BadCount, ShortTable, NoJunction, NoRoad, NoDistrict, EndsAlike, NotLawful, RoadsFull, NothingLeft, WorkLeft, ShortBook, NoBook, BadEntry, BadText}
+use Rattle.drawing.specs.declared.refusal.Refusal.TheVariants.{OtherMeasure, BadCount, ShortTable, NoJunction, NoRoad, NoDistrict, EndsAlike, NotLawful, RoadsFull, NothingLeft, WorkLeft, ShortBook, NoBook, BadEntry}
 
 -- the number of a table
 abbrev pub table_number : Table → ℕ
@@ -27,7 +27,6 @@ first_number WorkLeft = 9
 first_number (ShortBook words) = 10
 first_number NoBook = 11
 first_number (BadEntry table place) = 12
-first_number (BadText line field cause) = 13
 
 -- the numbers that it carries
 abbrev pub carried : Refusal → List ℕ
@@ -45,7 +44,6 @@ carried WorkLeft = []
 carried (ShortBook words) = words ∷ []
 carried NoBook = []
 carried (BadEntry table place) = table_number table ∷ place ∷ []
-carried (BadText line field cause) = line ∷ field ∷ cause ∷ []
 
 -- the numbers of a refusal: which it is, and then what it carries
 abbrev pub numbers : Refusal → List ℕ

@@ -43,8 +43,6 @@ pub enum Refusal {
     NoBook,
     // the first bad entry of a table
     BadEntry { table: Table, place: u64 },
-    // a fault in road text
-    BadText { line: u64, field: u64, cause: u64 },
 }
 
 impl Refusal {
@@ -65,7 +63,6 @@ impl Refusal {
             Refusal::ShortBook { .. } => 10,
             Refusal::NoBook => 11,
             Refusal::BadEntry { .. } => 12,
-            Refusal::BadText { .. } => 13,
         }
     }
 }
@@ -82,9 +79,6 @@ impl fmt::Display for Refusal {
             Refusal::BadEntry { table, place } => {
                 let table = table as u64;
                 write!(f, "{number} {table} {place}")
-            }
-            Refusal::BadText { line, field, cause } => {
-                write!(f, "{number} {line} {field} {cause}")
             }
             _ => write!(f, "{number}"),
         }

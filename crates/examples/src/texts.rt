@@ -1,7 +1,7 @@
 // Road texts, each with its outcome.
 use drawing::{Junction, Mark, Refusal, Road};
 use measure::Metres;
-use roadtext::{Unread, answer_line, read};
+use roadtext::{Cause, Fault, Unread, answer_line, read};
 use std::alloc::Global;
 use std::process::Abort;
 use std::test::Fail;
@@ -18,20 +18,21 @@ const RECORD: Road = Road {
 
 // What reading a text under metres is refused with, in tables of four junctions and three roads; and that a refusal leaves both
 // tables as they were.
-fn outcome(rt: &impl Abort, heap: Global, text: &[u8]) -> Result<Option<Refusal>, Fail> {
+fn outcome(rt: &impl Abort, heap: Global, text: &[u8]) -> Result<Option<Fault>, Fail> {
     let mut junctions = [PLACE; 4];
     let mut roads = [RECORD; 3];
     match read::<Metres>(heap, text, &mut junctions, &mut roads) {
         Ok(_) => Ok(None),
-        Err(Unread::Refused(refusal)) => {
+        Err(Unread::Refused(fault)) => {
             assert!(rt; junctions == [PLACE; 4]);
             assert!(rt; roads == [RECORD; 3]);
-            Ok(Some(refusal))
+            Ok(Some(fault))
         }
         Err(Unread::Memory) => Err(Fail::new("no memory")),
     }
 }
 
+// That a text is refused, with the fault of these numbers.
 fn faults(
     rt: &impl Abort,
     heap: Global,
@@ -40,11 +41,15 @@ fn faults(
     field: u64,
     cause: u64,
 ) -> Result<(), Fail> {
-    assert_eq!(rt;
-        outcome(rt, heap, text)?,
-        Some(Refusal::BadText { line, field, cause })
-    );
-    Ok(())
+    match outcome(rt, heap, text)? {
+        Some(fault) => {
+            assert_eq!(rt; fault.line, line);
+            assert_eq!(rt; fault.field, field);
+            assert_eq!(rt; fault.cause.number(), cause);
+            Ok(())
+        }
+        None => Err(Fail::new("read")),
+    }
 }
 
 fn reads(rt: &impl Abort, heap: Global, text: &[u8]) -> Result<(), Fail> {
@@ -203,6 +208,25 @@ fn as_many_junctions_as_there_may_be(rt: HostRuntime) -> Result<(), Fail> {
         },
         None => Err(Fail::new("no entry to spare")),
     }
+}
+
+#[test]
+fn faults_are_written_as_numbers(rt: HostRuntime) -> Result<(), Fail> {
+    let heap = rt.alloc();
+    let short = Fault {
+        line: 1,
+        field: 3,
+        cause: Cause::Drawing(Refusal::ShortTable { needed: 5 }),
+    };
+    assert!(rt; outcome(&rt, heap, b"p sp 5 0")? == Some(short));
+    assert!(rt; format!(in heap; "{short}")?.as_str() == "13 1 3 3");
+    let twin = Fault {
+        line: 12,
+        field: 1,
+        cause: Cause::Twin,
+    };
+    assert!(rt; format!(in heap; "{twin}")?.as_str() == "13 12 1 33");
+    Ok(())
 }
 
 #[test]

@@ -2,10 +2,11 @@
 #![tactic(auto)]
 
 use anyhow::anyhow;
-use drawing::{Junction, Refusal, Road};
+use drawing::{Junction, Road};
 use measure::Metres;
 use roadtext::{Reading, Unread, read};
 use std::alloc::Global;
+use std::fmt;
 use std::io::Read;
 
 // The entries of each table.
@@ -48,15 +49,15 @@ fn state(
     println!(rt; "districts in use {used}")?;
     match reading.drawing.count_borders(junctions, roads) {
         Ok(borders) => println!(rt; "borders {borders}")?,
-        Err(refusal) => return refuse(rt, refusal),
+        Err(refusal) => return refuse(rt, &refusal),
     }
     println!(rt; "asks that wait {asks}")?;
     Ok(())
 }
 
-// Prints a refusal, and nothing else; the program then ends with status 1.
-fn refuse(rt: &impl Print, refusal: Refusal) -> anyhow::Result<()> {
-    println!(rt; "refused {refusal}")?;
+// Prints the numbers of a refusal or of a fault, and nothing else; the program then ends with status 1.
+fn refuse(rt: &impl Print, numbers: &impl fmt::Display) -> anyhow::Result<()> {
+    println!(rt; "refused {numbers}")?;
     Err(anyhow!("refused"))
 }
 
@@ -66,7 +67,7 @@ fn run(rt: &HostRuntime, heap: Global) -> anyhow::Result<()> {
     let mut roads = vec![in heap; Road::default(); ENTRIES]?;
     match read::<Metres>(heap, &text, &mut junctions, &mut roads) {
         Ok(reading) => state(rt, &reading, &junctions, &roads),
-        Err(Unread::Refused(refusal)) => refuse(rt, refusal),
+        Err(Unread::Refused(fault)) => refuse(rt, &fault),
         Err(Unread::Memory) => Err(anyhow!("no memory")),
     }
 }

@@ -7,13 +7,13 @@ use Rattle.drawing.specs.Edits.{within}
 use Rattle.roadtext.specs.declared.parts.Arc.{Arc}
 use Rattle.roadtext.specs.declared.steps.Progress.{Progress}
 use Rattle.roadtext.specs.declared.steps.Step.{Step}
-use Rattle.roadtext.specs.Lines.{passed, d_checks, arc_in, two_in, number_at}
-use Rattle.roadtext.specs.Reading.{is_twin_lem}
+use Rattle.roadtext.specs.Lines.{passed, d_checks, arc_in, move_in, number_at}
+use Rattle.roadtext.specs.Reading.{is_twin}
 use Rattle.roadtext.specs.Steps.{Begun, Addable, Movable, twin_checks}
 use Rattle.roadtext.proofs.Passed.{each_passes}
 
 -- a move passes the checks of its `d` line
-pub move_movable : (fs : List (List ℕ)) (p : Progress) (t : Step) → Begun p.stage → Ok t ≡ passed (d_checks p.junctions fs) t → Movable p (two_in fs)
+pub move_movable : (fs : List (List ℕ)) (p : Progress) (t : Step) → Begun p.stage → Ok t ≡ passed (d_checks p.junctions fs) t → Movable p (move_in fs)
 move_movable fs p t b o =
     let all = each_passes (d_checks p.junctions fs) t o in
     record {
@@ -23,14 +23,14 @@ move_movable fs p t b o =
     }
 
 -- twins have the same ends, exchanged, and the same value
-twin_ends : (a b : Arc) → is_twin_lem a b ≡ true → (b.to ≡ a.from) × (b.from ≡ a.to) × (b.worth ≡ a.worth)
+twin_ends : (a b : Arc) → is_twin a b ≡ true → (b.to ≡ a.from) × (b.from ≡ a.to) × (b.worth ≡ a.worth)
 twin_ends a b h = (grind (arith, nat_tests), grind (arith, nat_tests), grind (arith, nat_tests))
 
 -- an arc passes the checks of its twin's line
 pub twin_addable : (s : Scale) (fs : List (List ℕ)) (p : Progress) (a : Arc) (t : Step) → Begun p.stage → Ok t ≡ passed (twin_checks s p fs a) t → Addable s p a
 twin_addable s fs p a t b o =
     let all = each_passes (twin_checks s p fs a) t o in
-    let ends = twin_ends a (arc_in fs) (not-false (is_twin_lem a (arc_in fs)) all.1.1.1.1.1.1.1.1.0) in
+    let ends = twin_ends a (arc_in fs) (not-false (is_twin a (arc_in fs)) all.1.1.1.1.1.1.1.1.0) in
     record {
       begun = b;
       from_within = sym (ap (within 1 p.junctions) ends.0) ∙ not-false (within 1 p.junctions (number_at fs 3)) all.1.1.1.0;

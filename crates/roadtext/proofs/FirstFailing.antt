@@ -1,12 +1,10 @@
 -- The first check of a list that fails. Assumes nothing.
 use Rattle.std.proofs.Common.{◌≡◌, ℕ, true, false, ◌⊎◌, List, [], ◌∷◌, ◌++◌, Ok, Err, refl, ap, inl, inr, ⊎_elim}
 use Rattle.std.proofs.lemmas.Bool.{cases_Bool}
-use Rattle.roadtext.specs.declared.parts.LineFault.{LineFault}
+use Rattle.roadtext.specs.declared.fault.Cause.{Cause}
 use Rattle.roadtext.specs.Lines.{Check, passed}
 use Rattle.roadtext.specs.FirstFault.{AllPass, FailsFirst}
-
-abbrev pub fault_of : Check → LineFault
-fault_of c = record { field = c.field_number; cause = c.cause }
+use Rattle.roadtext.proofs.Passed.{fault_of}
 
 pub passed_where_all_pass : {A : Type 0} (cs : List Check) (x : A) → AllPass cs → passed cs x ≡ Ok x
 passed_where_all_pass [] x t = refl
@@ -31,7 +29,7 @@ first_here c cs h = record {
 }
 
 first_later :
-    (c : Check) (cs : List Check) (field cause : ℕ) → c.fails ≡ false → FailsFirst cs field cause → FailsFirst (c ∷ cs) field cause
+    (c : Check) (cs : List Check) (field : ℕ) (cause : Cause) → c.fails ≡ false → FailsFirst cs field cause → FailsFirst (c ∷ cs) field cause
 first_later c cs field cause h r = record {
   earlier = c ∷ r.earlier;
   failing = r.failing;
@@ -44,7 +42,7 @@ first_later c cs field cause h r = record {
 }
 
 -- checks have a first that fails, or all pass
-pub fails_or_passes : (cs : List Check) → ((field : ℕ) × (cause : ℕ) × FailsFirst cs field cause) ⊎ AllPass cs
+pub fails_or_passes : (cs : List Check) → ((field : ℕ) × (cause : Cause) × FailsFirst cs field cause) ⊎ AllPass cs
 fails_or_passes [] = inr tt
 fails_or_passes (c ∷ cs) =
     ⊎_elim (λ h. inl (c.field_number, c.cause, first_here c cs h))

@@ -2,12 +2,16 @@
 use Rattle.std.proofs.Common.{◌≡◌, ℕ, ◌+◌, ◌≤◌, Bool, true, false, cond, ◌⊎◌, List, [], ◌∷◌, ◌++◌, length, Ok, Err, Result, sym, refl, ap, ◌∙◌, subst, ap₂, inl, inr, ⊎_elim, append-nil, arith}
 use Rattle.std.proofs.lemmas.Bool.{cases_Bool, cases_lt, both_ways, lt-ltb, le-ltb}
 use Rattle.measure.specs.Scale.{Scale}
+use Rattle.roadtext.specs.declared.fault.Cause.{Cause}
+use Rattle.roadtext.specs.declared.fault.Cause.TheVariants.{Letter, TooLong}
+use Rattle.roadtext.specs.declared.fault.Fault.{Fault}
+use Rattle.roadtext.specs.declared.parts.Room.{Room}
 use Rattle.roadtext.specs.declared.parts.Stage.{Stage}
 use Rattle.roadtext.specs.declared.parts.Stage.TheVariants.{Head, Arc as ArcAwaited, Twin, Tail, Asks}
 use Rattle.roadtext.specs.Text.{lines, fields}
-use Rattle.roadtext.specs.Lines.{Check, passed, letter_out_of_place, too_long}
-use Rattle.roadtext.specs.Reading.{State, nothing_read, Room, Fault, fault}
-use Rattle.roadtext.specs.Reading.{is_comment, line_checks, after_line, at_line, read_line_lem, ended, then_lines, read_lines, read_text}
+use Rattle.roadtext.specs.Lines.{Check, passed}
+use Rattle.roadtext.specs.Reading.{State, nothing_read, fault}
+use Rattle.roadtext.specs.Reading.{is_comment, line_checks, after_line, at_line, read_line, ended, then_lines, read_lines, read_text}
 use Rattle.roadtext.specs.FirstFault.{checks_of, with_line, with_lines, AllPass, NoFault, FailsFirst}
 use Rattle.roadtext.specs.FirstFault.{AtALine, awaits, FirstFault, Faultless, FaultIsTheFirst}
 use Rattle.roadtext.proofs.FirstFailing.{passed_where_all_pass, passed_at_a_failing, fails_or_passes}
@@ -15,7 +19,7 @@ use Rattle.roadtext.proofs.FirstFailing.{passed_where_all_pass, passed_at_a_fail
 -- At the end of the lines.
 
 ended_while_awaiting :
-    (l : ℕ) (st : State) (stage : Stage) → awaits stage ≡ true → ended l st stage ≡ Err (fault l 1 letter_out_of_place)
+    (l : ℕ) (st : State) (stage : Stage) → awaits stage ≡ true → ended l st stage ≡ Err (fault l 1 Letter)
 ended_while_awaiting l st Head e = refl
 ended_while_awaiting l st (ArcAwaited k) e = refl
 ended_while_awaiting l st (Twin a k) e = refl
@@ -30,8 +34,8 @@ ended_well l st Tail e = refl
 ended_well l st Asks e = refl
 
 fault_of_parts :
-    (f : Fault) (l field cause : ℕ) → f.line ≡ l → f.field_number ≡ field → f.cause ≡ cause → f ≡ fault l field cause
-fault_of_parts f l field cause p q r = ap (λ x. fault x f.field_number f.cause) p ∙ ap₂ (λ x y. fault l x y) q r
+    (f : Fault) (l field : ℕ) (cause : Cause) → f.line ≡ l → f.field ≡ field → f.cause ≡ cause → f ≡ fault l field cause
+fault_of_parts f l field cause p q r = ap (λ x. fault x f.field f.cause) p ∙ ap₂ (λ x y. fault l x y) q r
 
 module _ {A B : Type 0} (r : Result A B) where
   same_error : (x y : B) → r ≡ Err x → r ≡ Err y → x ≡ y
@@ -41,7 +45,7 @@ module _ {A B : Type 0} (r : Result A B) where
   same_value x y p q = cc
 
   not_both : (x : A) (y : B) → r ≡ Ok x → r ≡ Err y → ⊥
-  not_both x y p q = let z : ◌≡◌ {A = ℕ} 0 1 = cc in omega arith
+  not_both x y p q = cc
 
 comment_or_not :
     (b : Bool) (l : ℕ) (cs : List Check) (x y : State)
@@ -52,7 +56,7 @@ comment_or_not false l cs x y = refl
 module _ (s : Scale) (room : Room) where
   line_by_its_checks :
       (l : ℕ) (line : List ℕ) (st : State)
-      → read_line_lem s room l (fields line) st ≡ at_line l (passed (checks_of s room st line) (with_line st line))
+      → read_line s room l (fields line) st ≡ at_line l (passed (checks_of s room st line) (with_line st line))
   line_by_its_checks l line st =
       comment_or_not (is_comment (fields line)) l (line_checks s room st (fields line) st.stage) st
       (after_line st (fields line) st.stage)
@@ -85,7 +89,7 @@ module _ (s : Scale) (room : Room) where
       ∙ ap Err (sym (fault_of_parts f n c.field_number c.cause a.its_number first.its_field first.its_cause))
 
   fault_here :
-      (l : ℕ) (st : State) (line : List ℕ) (ls : List (List ℕ)) (field cause : ℕ)
+      (l : ℕ) (st : State) (line : List ℕ) (ls : List (List ℕ)) (field : ℕ) (cause : Cause)
       → FailsFirst (checks_of s room st line) field cause → AtALine s room l st (line ∷ ls) (fault l field cause)
   fault_here l st line ls field cause h = record {
     earlier = [];
@@ -147,11 +151,11 @@ module _ (s : Scale) (room : Room) where
     -- a text has a first fault, or none
     fault_or_faultless : ((f : Fault) × FirstFault s room text f) ⊎ Faultless s room text at_the_end
     fault_or_faultless =
-        ⊎_elim (λ long. inl (fault 0 0 too_long, inl (long, refl)))
+        ⊎_elim (λ long. inl (fault 0 0 TooLong, inl (long, refl)))
         (λ short. ⊎_elim (λ r. inl (r.0, inr (short, inl r.1)))
         (λ none. ⊎_elim
         (λ e. inl (
-          fault (1 + length (lines text)) 1 letter_out_of_place,
+          fault (1 + length (lines text)) 1 Letter,
           inr (short, inr record { lines_have_none = none; awaited = e; the_fault = refl }),
         ))
         (λ e. inr record { not_too_long = short; lines_have_none = none; nothing_awaited = e; what_is_read = refl })

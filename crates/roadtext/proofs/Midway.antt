@@ -1,40 +1,48 @@
 -- Midway through a text: what has been read, what is left, and what one more line brings. Assumes nothing.
-use Rattle.std.proofs.Common.{◌≡◌, ℕ, ◌+◌, List, [], Ok, sym, ap, ◌∙◌, subst}
+use Rattle.std.proofs.Common.{◌≡◌, ℕ, ◌+◌, List, Some, None, Option, Ok, Result, sym, ap, ◌∙◌, subst}
 use Rattle.measure.specs.Scale.{Scale}
-use Rattle.roadtext.specs.declared.steps.Progress.{Progress}
-use Rattle.roadtext.specs.declared.steps.Step.{Step}
+use Rattle.roadtext.specs.declared.fault.Fault.{Fault}
+use Rattle.roadtext.specs.declared.parts.Room.{Room}
+use Rattle.roadtext.specs.declared.steps.Event.{Event}
+use Rattle.roadtext.specs.declared.walk.Walk.{Walk}
 use Rattle.roadtext.specs.Text.{lines, fields, CutLine}
-use Rattle.roadtext.specs.Reading.{State, Room, read_line_lem, then_lines, read_lines, nothing_read, ended}
-use Rattle.roadtext.specs.Checked.{ReadsLine}
-use Rattle.roadtext.specs.Steps.{Steps, progress_of, stepped, Counted}
+use Rattle.roadtext.specs.Reading.{State, read_line, then_lines, read_lines, nothing_read, ended}
+use Rattle.roadtext.specs.Steps.{progress_of, stepped, Counted}
+use Rattle.roadtext.specs.Walked.{WalkGives}
 
--- st has been read, which has come as far as p; reading the rest, from line number l on, is reading the text
-pub record Midway (s : Scale) (room : Room) (text : List ℕ) (l : ℕ) (rest : List ℕ) (st : State) (p : Progress) : Type 0 where
-  pub came : progress_of room st ≡ p
-  pub left : read_lines s room l (lines rest) st ≡ read_lines s room 1 (lines text) nothing_read
+-- st has been read, as far as the walk has come; reading the rest is reading the text
+pub record Midway {M : Type 0} (s : Scale) (room : Room) (text : List ℕ) (w : Walk M) (st : State) : Type 0 where
+  pub came : progress_of room st ≡ w.progress
+  pub left : read_lines s room w.number (lines w.rest.now) st ≡ read_lines s room 1 (lines text) nothing_read
 
-module _ {s : Scale} {room : Room} {text : List ℕ} {l : ℕ} {rest : List ℕ} {st : State} {p : Progress} (here : Midway s room text l rest st p) where
+-- before the first line
+pub midway_start : {M : Type 0} (s : Scale) (room : Room) (text : List ℕ) (w : Walk M) → w.progress ≡ progress_of room nothing_read → w.number ≡ 1 → w.rest.now ≡ text → Midway s room text w nothing_read
+midway_start s room text w p n r = record {
+  came = sym p;
+  left = ap (λ k. read_lines s room k (lines w.rest.now) nothing_read) n ∙ ap (λ t. read_lines s room 1 (lines t) nothing_read) r;
+}
+
+module _ {M : Type 0} {s : Scale} {room : Room} {text : List ℕ} {w : Walk M} {st : State} (here : Midway s room text w st) where
   -- what a line cut off does to what is left
-  first_line : {line more : List ℕ} → CutLine rest line more → then_lines (read_lines s room (l + 1) (lines more)) (read_line_lem s room l (fields line) st) ≡ read_lines s room 1 (lines text) nothing_read
-  first_line cut = sym (ap (λ ls. read_lines s room l ls st) cut.lines_are) ∙ here.left
+  first_line : {line more : List ℕ} → CutLine w.rest.now line more → then_lines (read_lines s room (w.number + 1) (lines more)) (read_line s room w.number (fields line) st) ≡ read_lines s room 1 (lines text) nothing_read
+  first_line cut = sym (ap (λ ls. read_lines s room w.number ls st) cut.lines_are) ∙ here.left
 
-  pub midway_next : {line more : List ℕ} (t : Step) → CutLine rest line more → Steps s (fields line) p (Ok t) → Midway s room text (l + 1) more (stepped st t) t.progress
-  midway_next {line} {more} t cut steps =
-      record {
-        came = steps.keeps room st here.came;
-        left = sym (ap (then_lines (read_lines s room (l + 1) (lines more))) (steps.read room st here.came l)) ∙ first_line cut;
-      }
+  module _ {item : Result (Option Event) Fault} (v : Walk M) (gives : WalkGives s w (Some item) v) where
+    -- after a line without fault
+    pub midway_on : (event : Option Event) → item ≡ Ok event → Midway s room text v (stepped st (record { progress = v.progress; event = event }))
+    midway_on event e =
+        let h = subst (λ r. WalkGives s w (Some r) v) e gives in
+        let next = h.3 in record {
+          came = next.keeps room st here.came;
+          left =
+              ap (λ k. read_lines s room k (lines v.rest.now) (stepped st (record { progress = v.progress; event = event }))) h.2
+              ∙ sym (ap (then_lines (read_lines s room (w.number + 1) (lines v.rest.now))) (next.read room st here.came w.number)) ∙ first_line h.1;
+        }
 
-  -- the same, as checking goes on
-  pub midway_checked : {line more : List ℕ} (q : Progress × ℕ) → CutLine rest line more → ReadsLine s (fields line) p l (Ok q) → Counted p p.stage
-      → (there : State) × Midway s room text q.1 more there q.0 × Counted q.0 q.0.stage
-  midway_checked {line} {more} q cut read counted =
-      let t = read.0 in (
-        stepped st t,
-        subst (λ k. Midway s room text k more (stepped st t) q.0) (sym read.3)
-            (subst (λ v. Midway s room text (l + 1) more (stepped st t) v) (sym read.2) (midway_next t cut read.1)),
-        subst (λ v. Counted v v.stage) (sym read.2) (read.1.counts counted),
-      )
+    -- after the `p` line a drawing with as many junctions can be started, and still so one line on
+    pub midway_counted : (event : Option Event) → item ≡ Ok event → Counted w.progress w.progress.stage → Counted v.progress v.progress.stage
+    midway_counted event e counted = let h = subst (λ r. WalkGives s w (Some r) v) e gives in h.3.counts counted
 
-  pub midway_end : lines rest ≡ [] → read_lines s room 1 (lines text) nothing_read ≡ ended l st st.stage
-  midway_end e = sym here.left ∙ ap (λ ls. read_lines s room l ls st) e
+  -- where no line is left, the end of the text decides
+  pub midway_end : (v : Walk M) → WalkGives s w None v → read_lines s room 1 (lines text) nothing_read ≡ ended w.number st st.stage
+  midway_end v e = sym here.left ∙ ap (λ ls. read_lines s room w.number ls st) e.0

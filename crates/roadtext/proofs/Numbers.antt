@@ -1,46 +1,26 @@
 -- The number that digits write, one digit on. Assumes nothing.
-use Rattle.std.proofs.Common.{◌≡◌, ℕ, ◌+◌, ◌-◌, ◌*◌, ◌^◌, ◌<◌, ◌≤◌, Bool, true, false, cond, ◌&&◌, leb, ◌⊎◌, List, length, get_or, drop, Some, None, sym, ap, ◌∙◌, ⊎_elim, add-one, arith, lit<}
+use Rattle.std.proofs.Common.{◌≡◌, ℕ, ◌+◌, ◌-◌, ◌*◌, ◌^◌, ◌<◌, ◌≤◌, Bool, true, false, cond, ◌&&◌, List, length, get_or, drop, Some, None, sym, ap, ◌∙◌, add-one, arith, lit<}
 use native.Mathlib.Nat.{pow-succ', pow-le-pow_right}
-use Rattle.std.proofs.lemmas.List.{at_drop_more, at_drop_all}
-use Rattle.std.proofs.lemmas.Bool.{and_left, and_right, and_from, le-leb, lt-leb, cond-true, cond-false}
+use Rattle.std.proofs.lemmas.List.{at_drop_more}
+use Rattle.std.proofs.lemmas.Bool.{and_left, cond-false}
 use Rattle.drawing.specs.Edits.{within}
 use Rattle.roadtext.specs.Text.{all_digits, digits_after}
-
-is_within : (low high b : ℕ) → low ≤ b → b ≤ high → within low high b ≡ true
-is_within low high b l h = and_from (leb low b) (leb b high) (le-leb low b l) (le-leb b high h)
-
-is_not_within : (low high b : ℕ) → (b < low) ⊎ (high < b) → within low high b ≡ false
-is_not_within low high b e =
-    ⊎_elim
-    (λ (l : b < low). and_left (leb low b) (leb b high) (lt-leb low b l))
-    (λ (h : high < b). and_right (leb low b) (leb b high) (lt-leb b high h))
-    e
 
 -- digits from place i on, where n is the number that the digits before write
 module _ (text : List ℕ) (i n : ℕ) (so_far : digits_after n (drop i text) ≡ digits_after 0 text) (all : all_digits (drop i text) ≡ all_digits text) where
   -- another byte than a digit ends it
-  pub no_number_here : i < length text → (get_or text i 0 < 48) ⊎ (57 < get_or text i 0) → None ≡ cond (all_digits text) (Some (digits_after 0 text)) None
+  pub no_number_here : i < length text → within 48 57 (get_or text i 0) ≡ false → None ≡ cond (all_digits text) (Some (digits_after 0 text)) None
   no_number_here h e =
       let none : all_digits text ≡ false =
-      sym all ∙ at_drop_more all_digits text i 0 h
-      ∙ and_left (within 48 57 (get_or text i 0)) (all_digits (drop (i + 1) text)) (is_not_within 48 57 (get_or text i 0) e) in
+      sym all ∙ at_drop_more all_digits text i 0 h ∙ and_left (within 48 57 (get_or text i 0)) (all_digits (drop (i + 1) text)) e in
       sym (cond-false (all_digits text) (Some (digits_after 0 text)) None none)
 
   -- a digit makes ten of one, and adds itself
   pub digit_read : i < length text → digits_after (10 * n + (get_or text i 0 - 48)) (drop (i + 1) text) ≡ digits_after 0 text
   digit_read h = sym (at_drop_more (digits_after n) text i 0 h) ∙ so_far
 
-  pub digits_on : i < length text → 48 ≤ get_or text i 0 → get_or text i 0 ≤ 57 → all_digits (drop (i + 1) text) ≡ all_digits text
-  digits_on h low high =
-      sym (at_drop_more all_digits text i 0 h
-      ∙ ap (λ (b : Bool). b && all_digits (drop (i + 1) text)) (is_within 48 57 (get_or text i 0) low high)) ∙ all
-
-  -- at the end the number is what all of them write
-  pub number_done : length text ≤ i → Some n ≡ cond (all_digits text) (Some (digits_after 0 text)) None
-  number_done h =
-      let only : all_digits text ≡ true = sym all ∙ at_drop_all all_digits text i h in
-      ap Some (sym (at_drop_all (digits_after n) text i h) ∙ so_far)
-      ∙ sym (cond-true (all_digits text) (Some (digits_after 0 text)) None only)
+  pub digits_on : i < length text → within 48 57 (get_or text i 0) ≡ true → all_digits (drop (i + 1) text) ≡ all_digits text
+  digits_on h e = sym (at_drop_more all_digits text i 0 h ∙ ap (λ (b : Bool). b && all_digits (drop (i + 1) text)) e) ∙ all
 
 -- one digit more keeps the number below the next power of ten
 pub power_on : (n d i : ℕ) → n < 10 ^ i → d ≤ 9 → 10 * n + d < 10 ^ (i + 1)

@@ -1,11 +1,13 @@
 -- A written network is read back. Assumes nothing.
 use Rattle.std.proofs.Common.{◌≡◌, ℕ, ◌*◌, ◌≤◌, false, List, [], ◌++◌, length, sym, refl, ap, ◌∙◌, subst, arith}
 use Rattle.measure.specs.Scale.{Scale}
+use Rattle.roadtext.specs.declared.parts.Room.{Room}
 use Rattle.roadtext.specs.declared.parts.Arc.{Arc}
-use Rattle.roadtext.specs.declared.parts.Two.{Two}
+use Rattle.roadtext.specs.declared.parts.Move.{Move}
+use Rattle.roadtext.specs.declared.parts.Ask.{Ask}
 use Rattle.roadtext.specs.declared.parts.Stage.{Stage}
 use Rattle.roadtext.specs.Text.{lines}
-use Rattle.roadtext.specs.Reading.{nothing_read, Room}
+use Rattle.roadtext.specs.Reading.{nothing_read}
 use Rattle.roadtext.specs.FirstFault.{awaits}
 use Rattle.roadtext.specs.Written.{arc_lines, move_lines, ask_lines, written_lines, without_comments, Writable, IsRead, ReadsBack}
 use Rattle.roadtext.proofs.FirstFault.{fault_is_the_first_lem}
@@ -14,7 +16,7 @@ use Rattle.roadtext.proofs.WrittenLines.{reading, head_adds}
 use Rattle.roadtext.proofs.WrittenParts.{Reads, line_first, lines_first, past_comments, roads_are_read, moves_are_read, all_asks_are_read}
 use Rattle.roadtext.proofs.WrittenPlain.{written_lines_lack_line_ends, no_written_line_is_a_comment}
 
-module _ (s : Scale) (room : Room) (n : ℕ) (roads : List Arc) (moves asks : List Two) (w : Writable s room n roads moves asks) where
+module _ (s : Scale) (room : Room) (n : ℕ) (roads : List Arc) (moves : List Move) (asks : List Ask) (w : Writable s room n roads moves asks) where
   all_is_read :
       (stage : Stage) × (awaits stage ≡ false)
       × Reads s room nothing_read (written_lines n roads moves asks) (reading stage n roads moves asks)

@@ -4,10 +4,11 @@ use Rattle.std.proofs.lemmas.Bool.{and_from, eq-eqb, ne_eqb, lt-ltb, le-ltb}
 use Rattle.measure.specs.Scale.{Scale}
 use Rattle.drawing.specs.Edits.{within}
 use Rattle.roadtext.specs.declared.parts.Arc.{Arc}
-use Rattle.roadtext.specs.declared.parts.Two.{Two}
+use Rattle.roadtext.specs.declared.parts.Move.{Move}
+use Rattle.roadtext.specs.declared.parts.Ask.{Ask}
 use Rattle.roadtext.specs.Text.{number}
-use Rattle.roadtext.specs.Lines.{p_checks, a_checks, d_checks, q_checks, arc_in, two_in}
-use Rattle.roadtext.specs.Reading.{is_twin_lem}
+use Rattle.roadtext.specs.Lines.{p_checks, a_checks, d_checks, q_checks, arc_in, move_in, ask_in}
+use Rattle.roadtext.specs.Reading.{is_twin, reversed}
 use Rattle.roadtext.specs.FirstFault.{AllPass}
 use Rattle.roadtext.specs.Written.{JunctionOf, WritableRoad}
 use Rattle.drawing.proofs.Within as limits
@@ -28,9 +29,6 @@ two_fields letter f g = (letter ∷ []) ∷ f ∷ g ∷ []
 
 abbrev pub arc : ℕ → ℕ → ℕ → Arc
 arc u v x = record { from = u; to = v; worth = x }
-
-abbrev pub two : ℕ → ℕ → Two
-two a b = record { left = a; right = b }
 
 -- a field that writes the number x
 module _ (f : List ℕ) (x : ℕ) (e : Writes f x) where
@@ -90,17 +88,13 @@ module _ (f g h : List ℕ) (a : Arc) (p : Writes f a.from) (q : Writes g a.to) 
       ap (λ y. arc y (unwrap_or (number g) 0) (unwrap_or (number h) 0)) (its_value f a.from p)
       ∙ ap₂ (λ y z. arc a.from y z) (its_value g a.to q) (its_value h a.worth r)
 
--- an arc with its ends exchanged, and that it is a twin
-
-abbrev pub turned : Arc → Arc
-turned a = arc a.to a.from a.worth
-
-pub turned_is_twin : (a : Arc) → is_twin_lem a (turned a) ≡ true
-turned_is_twin a =
+-- an arc with its ends exchanged is a twin, and can be written
+pub reversed_is_twin : (a : Arc) → is_twin a (reversed a) ≡ true
+reversed_is_twin a =
     and_from _ _ (eq-eqb a.from a.from refl) (and_from _ _ (eq-eqb a.to a.to refl) (eq-eqb a.worth a.worth refl))
 
-pub turned_is_writable : (s : Scale) (n : ℕ) (a : Arc) → WritableRoad s n a → WritableRoad s n (turned a)
-turned_is_writable s n a road = record {
+pub reversed_is_writable : (s : Scale) (n : ℕ) (a : Arc) → WritableRoad s n a → WritableRoad s n (reversed a)
+reversed_is_writable s n a road = record {
   from_a_junction = road.to_a_junction;
   to_a_junction = road.from_a_junction;
   ends_differ = λ e. road.ends_differ (sym e);
@@ -108,27 +102,32 @@ turned_is_writable s n a road = record {
   at_most_ten_digits = road.at_most_ten_digits;
 }
 
-module _ (letter : ℕ) (f g : List ℕ) (m : Two) (p : Writes f m.left) (q : Writes g m.right) where
-  pub move_passes : (n : ℕ) → JunctionOf n m.left → m.right < 64 → AllPass (d_checks n (two_fields letter f g))
-  move_passes n junction low = (
-    is_number f m.left p,
-    (
-      is_within f m.left p 1 n junction,
+module _ (letter : ℕ) (f g : List ℕ) where
+  module _ (m : Move) (p : Writes f m.junction) (q : Writes g m.district) where
+    pub move_passes : (n : ℕ) → JunctionOf n m.junction → m.district < 64 → AllPass (d_checks n (two_fields letter f g))
+    move_passes n junction low = (
+      is_number f m.junction p,
       (
-        is_number g m.right q,
-        (ap (λ y. not (ltb y 64)) (its_value g m.right q) ∙ ap not (lt-ltb m.right 64 low), (refl, tt)),
+        is_within f m.junction p 1 n junction,
+        (
+          is_number g m.district q,
+          (ap (λ y. not (ltb y 64)) (its_value g m.district q) ∙ ap not (lt-ltb m.district 64 low), (refl, tt)),
+        ),
       ),
-    ),
-  )
+    )
 
-  pub ask_passes : (n : ℕ) → JunctionOf n m.left → JunctionOf n m.right → AllPass (q_checks n (two_fields letter f g))
-  ask_passes n left right = (
-    is_number f m.left p,
-    (
-      is_within f m.left p 1 n left,
-      (is_number g m.right q, (is_within g m.right q 1 n right, (refl, tt))),
-    ),
-  )
+    pub move_is_read : move_in (two_fields letter f g) ≡ m
+    move_is_read = ap₂ (λ y z. let r : Move = record { junction = y; district = z } in r) (its_value f m.junction p) (its_value g m.district q)
 
-  pub two_is_read : two_in (two_fields letter f g) ≡ m
-  two_is_read = ap₂ (λ y z. two y z) (its_value f m.left p) (its_value g m.right q)
+  module _ (a : Ask) (p : Writes f a.from) (q : Writes g a.to) where
+    pub ask_passes : (n : ℕ) → JunctionOf n a.from → JunctionOf n a.to → AllPass (q_checks n (two_fields letter f g))
+    ask_passes n from to = (
+      is_number f a.from p,
+      (
+        is_within f a.from p 1 n from,
+        (is_number g a.to q, (is_within g a.to q 1 n to, (refl, tt))),
+      ),
+    )
+
+    pub ask_is_read : ask_in (two_fields letter f g) ≡ a
+    ask_is_read = ap₂ (λ y z. let r : Ask = record { from = y; to = z } in r) (its_value f a.from p) (its_value g a.to q)

@@ -3,25 +3,29 @@ use Rattle.std.proofs.Common.{◌≡◌, ℕ, ◌-◌, ◌%◌, ◌^◌, ◌<◌
 use Rattle.std.proofs.ByRecursion.{All-append}
 use Rattle.std.proofs.lemmas.Bool.{or_from, lt-leb}
 use Rattle.measure.specs.Scale.{Scale}
+use Rattle.drawing.specs.declared.refusal.Refusal.TheVariants.{RoadsFull}
+use Rattle.roadtext.specs.declared.fault.Cause.TheVariants.{Twin as NoTwin, Drawing}
+use Rattle.roadtext.specs.declared.parts.Room.{Room}
 use Rattle.roadtext.specs.declared.parts.Arc.{Arc}
-use Rattle.roadtext.specs.declared.parts.Two.{Two}
+use Rattle.roadtext.specs.declared.parts.Move.{Move}
+use Rattle.roadtext.specs.declared.parts.Ask.{Ask}
 use Rattle.roadtext.specs.declared.parts.Stage.{Stage}
 use Rattle.roadtext.specs.declared.parts.Stage.TheVariants.{Arc as ArcAwaited, Twin, Tail, Asks}
 use Rattle.roadtext.specs.Text.{fields}
-use Rattle.roadtext.specs.Lines.{check, no_twin, a_checks, q_checks, arc_in, two_in}
-use Rattle.roadtext.specs.Reading.{State, nothing_read, Room, is_comment, is_twin_lem, line_checks, arcs_to_come_lem, after_line}
+use Rattle.roadtext.specs.Lines.{check, a_checks, q_checks, arc_in, ask_in}
+use Rattle.roadtext.specs.Reading.{State, nothing_read, is_comment, is_twin, reversed, line_checks, arcs_to_come_lem, after_line}
 use Rattle.roadtext.specs.FirstFault.{checks_of, with_line, AllPass}
-use Rattle.roadtext.specs.Written.{spaced, head_line, arc_line, JunctionOf, WritableRoad}
+use Rattle.roadtext.specs.Written.{head_line, arc_line, move_line, ask_line, JunctionOf, WritableRoad}
 use Rattle.roadtext.proofs.WrittenNumbers.{number_decimal}
 use Rattle.roadtext.proofs.WrittenFields.{fields_of_spaced, head_line_lacks, fields_of_letter_line}
 use Rattle.roadtext.proofs.WrittenChecks.{Writes, head_fields, arc_fields, two_fields, its_value, head_passes, arc_passes, arc_is_read}
-use Rattle.roadtext.proofs.WrittenChecks.{turned, turned_is_twin, turned_is_writable, move_passes, ask_passes, two_is_read}
+use Rattle.roadtext.proofs.WrittenChecks.{reversed_is_twin, reversed_is_writable, move_passes, ask_passes, move_is_read, ask_is_read}
 
 -- what has been read, part by part
-abbrev pub reading : Stage → ℕ → List Arc → List Two → List Two → State
+abbrev pub reading : Stage → ℕ → List Arc → List Move → List Ask → State
 reading stage n roads moves asks = record { stage = stage; junctions = n; roads = roads; moves = moves; asks = asks }
 
--- the written line of an arc, and of two numbers after a letter, each with its fields
+-- the written line of an arc, and the fields of each line
 
 abbrev pub line_of_arc : Arc → List ℕ
 line_of_arc a = arc_line a.from a.to a.worth
@@ -29,11 +33,11 @@ line_of_arc a = arc_line a.from a.to a.worth
 abbrev words_of_arc : Arc → List (List ℕ)
 words_of_arc a = arc_fields (decimal a.from) (decimal a.to) (decimal a.worth)
 
-abbrev pub line_of_two : ℕ → Two → List ℕ
-line_of_two letter m = spaced (letter ∷ []) (decimal m.left ∷ decimal m.right ∷ [])
+abbrev words_of_move : Move → List (List ℕ)
+words_of_move m = two_fields 100 (decimal m.junction) (decimal m.district)
 
-abbrev words_of_two : ℕ → Two → List (List ℕ)
-words_of_two letter m = two_fields letter (decimal m.left) (decimal m.right)
+abbrev words_of_ask : Ask → List (List ℕ)
+words_of_ask q = two_fields 113 (decimal q.from) (decimal q.to)
 
 -- the line has no fault, and this has been read after it
 pub record Adds (s : Scale) (room : Room) (st : State) (line : List ℕ) (after : State) : Type 0 where
@@ -88,7 +92,7 @@ module _ (s : Scale) (room : Room) where
       arc_of_line =
           arc_is_read (decimal a.from) (decimal a.to) (decimal a.worth) a from_is_written to_is_written worth_is_written
 
-    module _ (roads : List Arc) (moves asks : List Two) where
+    module _ (roads : List Arc) (moves : List Move) (asks : List Ask) where
       abbrev at : Stage → State
       at stage = reading stage n roads moves asks
 
@@ -106,65 +110,60 @@ module _ (s : Scale) (room : Room) where
 
       pub twin_adds :
           (a : Arc) → WritableRoad s n a → (k : ℕ) → length roads < 16384 → length roads < room.records
-          → Adds s room (reading (Twin a k) n roads moves asks) (line_of_arc (turned a))
+          → Adds s room (reading (Twin a k) n roads moves asks) (line_of_arc (reversed a))
           (reading (arcs_to_come_lem k) n (roads ++ (a ∷ [])) moves asks)
       twin_adds a road k h j =
-          let back = turned_is_writable s n a road in
-          let fs = words_of_arc (turned a) in
+          let back = reversed_is_writable s n a road in
+          let fs = words_of_arc (reversed a) in
           let full = leb 16384 (length roads) || leb room.records (length roads) in
-          by_its_fields (at (Twin a k)) (line_of_arc (turned a)) fs (reading (arcs_to_come_lem k) n (roads ++ (a ∷ [])) moves asks)
-          (fields_of_arc (turned a) back) (
+          by_its_fields (at (Twin a k)) (line_of_arc (reversed a)) fs (reading (arcs_to_come_lem k) n (roads ++ (a ∷ [])) moves asks)
+          (fields_of_arc (reversed a) back) (
             refl,
-            All-append (λ c. c.fails ≡ false) (a_checks s n fs) (check 1 no_twin (not (is_twin_lem a (arc_in fs))) ∷ check 1 8 full ∷ [])
-                (checks_of_arc (turned a) back) (
-                  ap (λ y. not (is_twin_lem a y)) (arc_of_line (turned a) back) ∙ ap not (turned_is_twin a),
+            All-append (λ c. c.fails ≡ false) (a_checks s n fs) (check 1 NoTwin (not (is_twin a (arc_in fs))) ∷ check 1 (Drawing RoadsFull) full ∷ [])
+                (checks_of_arc (reversed a) back) (
+                  ap (λ y. not (is_twin a y)) (arc_of_line (reversed a) back) ∙ ap not (reversed_is_twin a),
                   (room_for_a_road h j, tt),
                 ),
           )
           refl
 
-      module _ (letter : ℕ) (other : letter ≡ 32 → ⊥) (m : Two) (left : m.left < 10 ^ 10) (right : m.right < 10 ^ 10) where
-        fields_of_two : fields (line_of_two letter m) ≡ words_of_two letter m
-        fields_of_two = fields_of_letter_line letter other (m.left ∷ m.right ∷ []) (left, (right, tt))
-
-        two_of_line : two_in (words_of_two letter m) ≡ m
-        two_of_line =
-            two_is_read letter (decimal m.left) (decimal m.right) m
-            (number_decimal m.left left) (number_decimal m.right right)
-
       pub move_adds :
-          (m : Two) → JunctionOf n m.left → m.right < 64
-          → Adds s room (reading Tail n roads moves asks) (line_of_two 100 m) (reading Tail n roads (moves ++ (m ∷ [])) asks)
+          (m : Move) → JunctionOf n m.junction → m.district < 64
+          → Adds s room (reading Tail n roads moves asks) (move_line m.junction m.district) (reading Tail n roads (moves ++ (m ∷ [])) asks)
       move_adds m h k =
-          let left : m.left < 10 ^ 10 = omega arith in
-          let right : m.right < 10 ^ 10 = omega arith in
-          by_its_fields (at Tail) (line_of_two 100 m) (words_of_two 100 m) (reading Tail n roads (moves ++ (m ∷ [])) asks)
-          (fields_of_two 100 (λ e. omega arith) m left right)
-          (move_passes 100 (decimal m.left) (decimal m.right) m
-          (number_decimal m.left left) (number_decimal m.right right) n h k)
-          (ap (λ y. reading Tail n roads (moves ++ (y ∷ [])) asks) (two_of_line 100 (λ e. omega arith) m left right))
+          let p : m.junction < 10 ^ 10 = omega arith in
+          let q : m.district < 10 ^ 10 = omega arith in
+          by_its_fields (at Tail) (move_line m.junction m.district) (words_of_move m) (reading Tail n roads (moves ++ (m ∷ [])) asks)
+          (fields_of_letter_line 100 (λ e. omega arith) (m.junction ∷ m.district ∷ []) (p, (q, tt)))
+          (move_passes 100 (decimal m.junction) (decimal m.district) m (number_decimal m.junction p) (number_decimal m.district q) n h k)
+          (ap (λ y. reading Tail n roads (moves ++ (y ∷ [])) asks)
+          (move_is_read 100 (decimal m.junction) (decimal m.district) m (number_decimal m.junction p) (number_decimal m.district q)))
 
-      module _ (q : Two) (h : JunctionOf n q.left) (k : JunctionOf n q.right) where
-        abbrev with_ask : Two → State
+      module _ (q : Ask) (h : JunctionOf n q.from) (k : JunctionOf n q.to) where
+        abbrev with_ask : Ask → State
         with_ask y = reading Asks n roads moves (asks ++ (y ∷ []))
 
-        fields_of_ask : fields (line_of_two 113 q) ≡ words_of_two 113 q
-        fields_of_ask = fields_of_two 113 (λ e. omega arith) q (omega arith) (omega arith)
+        from_is_asked : Writes (decimal q.from) q.from
+        from_is_asked = number_decimal q.from (omega arith)
 
-        checks_of_ask : AllPass (q_checks n (words_of_two 113 q))
-        checks_of_ask =
-            ask_passes 113 (decimal q.left) (decimal q.right) q
-            (number_decimal q.left (omega arith)) (number_decimal q.right (omega arith)) n h k
+        to_is_asked : Writes (decimal q.to) q.to
+        to_is_asked = number_decimal q.to (omega arith)
 
-        ask_of_line : with_ask (two_in (words_of_two 113 q)) ≡ with_ask q
-        ask_of_line = ap with_ask (two_of_line 113 (λ e. omega arith) q (omega arith) (omega arith))
+        fields_of_ask : fields (ask_line q.from q.to) ≡ words_of_ask q
+        fields_of_ask = fields_of_letter_line 113 (λ e. omega arith) (q.from ∷ q.to ∷ []) (omega arith, (omega arith, tt))
+
+        checks_of_ask : AllPass (q_checks n (words_of_ask q))
+        checks_of_ask = ask_passes 113 (decimal q.from) (decimal q.to) q from_is_asked to_is_asked n h k
+
+        ask_of_line : with_ask (ask_in (words_of_ask q)) ≡ with_ask q
+        ask_of_line = ap with_ask (ask_is_read 113 (decimal q.from) (decimal q.to) q from_is_asked to_is_asked)
 
         pub first_ask_adds :
-            Adds s room (reading Tail n roads moves asks) (line_of_two 113 q) (reading Asks n roads moves (asks ++ (q ∷ [])))
+            Adds s room (reading Tail n roads moves asks) (ask_line q.from q.to) (reading Asks n roads moves (asks ++ (q ∷ [])))
         first_ask_adds =
-            by_its_fields (at Tail) (line_of_two 113 q) (words_of_two 113 q) (with_ask q) fields_of_ask (refl, checks_of_ask) ask_of_line
+            by_its_fields (at Tail) (ask_line q.from q.to) (words_of_ask q) (with_ask q) fields_of_ask (refl, checks_of_ask) ask_of_line
 
         pub ask_adds :
-            Adds s room (reading Asks n roads moves asks) (line_of_two 113 q) (reading Asks n roads moves (asks ++ (q ∷ [])))
+            Adds s room (reading Asks n roads moves asks) (ask_line q.from q.to) (reading Asks n roads moves (asks ++ (q ∷ [])))
         ask_adds =
-            by_its_fields (at Asks) (line_of_two 113 q) (words_of_two 113 q) (with_ask q) fields_of_ask (refl, checks_of_ask) ask_of_line
+            by_its_fields (at Asks) (ask_line q.from q.to) (words_of_ask q) (with_ask q) fields_of_ask (refl, checks_of_ask) ask_of_line

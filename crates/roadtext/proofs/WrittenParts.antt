@@ -3,12 +3,14 @@ use Rattle.std.proofs.Common.{◌≡◌, ℕ, ◌+◌, ◌-◌, ◌*◌, ◌≤�
 use Rattle.std.specs.List.{AllByRecursion}
 use Rattle.std.proofs.lemmas.Bool.{cases_Bool, cond-false, ne_eqb}
 use Rattle.measure.specs.Scale.{Scale}
+use Rattle.roadtext.specs.declared.parts.Room.{Room}
 use Rattle.roadtext.specs.declared.parts.Arc.{Arc}
-use Rattle.roadtext.specs.declared.parts.Two.{Two}
+use Rattle.roadtext.specs.declared.parts.Move.{Move}
+use Rattle.roadtext.specs.declared.parts.Ask.{Ask}
 use Rattle.roadtext.specs.declared.parts.Stage.{Stage}
 use Rattle.roadtext.specs.declared.parts.Stage.TheVariants.{Arc as ArcAwaited, Tail, Asks}
 use Rattle.roadtext.specs.Text.{fields}
-use Rattle.roadtext.specs.Reading.{State, Room, is_comment, line_checks, after_line, arcs_to_come_lem}
+use Rattle.roadtext.specs.Reading.{State, is_comment, line_checks, after_line, arcs_to_come_lem}
 use Rattle.roadtext.specs.FirstFault.{with_line, with_lines, AllPass, NoFault, awaits}
 use Rattle.roadtext.specs.Written.{arc_lines, move_lines, ask_lines, without_comments, WritableRoad, WritableMove, WritableAsk}
 use Rattle.roadtext.proofs.WrittenLines.{reading, Adds, arc_adds, twin_adds, move_adds, first_ask_adds, ask_adds}
@@ -80,16 +82,16 @@ module _ (s : Scale) (room : Room) where
 
     module _ (roads : List Arc) where
       pub moves_are_read :
-          (todo done : List Two) → AllByRecursion (WritableMove n) todo
+          (todo done : List Move) → AllByRecursion (WritableMove n) todo
           → Reads s room (reading Tail n roads done []) (move_lines todo) (reading Tail n roads (done ++ todo) [])
       moves_are_read [] done t = no_line (ap (λ x. reading Tail n roads x []) (sym (append-nil done)))
       moves_are_read (m ∷ rest) done (h, t) =
           said_as (ap (λ x. reading Tail n roads x []) (append_assoc done (m ∷ []) rest))
           (line_first (move_adds s room n few roads done [] m h.0 h.1) (moves_are_read rest (done ++ (m ∷ [])) t))
 
-      module _ (moves : List Two) where
+      module _ (moves : List Move) where
         asks_are_read :
-            (todo done : List Two) → AllByRecursion (WritableAsk n) todo
+            (todo done : List Ask) → AllByRecursion (WritableAsk n) todo
             → Reads s room (reading Asks n roads moves done) (ask_lines todo) (reading Asks n roads moves (done ++ todo))
         asks_are_read [] done t = no_line (ap (λ x. reading Asks n roads moves x) (sym (append-nil done)))
         asks_are_read (q ∷ rest) done (h, t) =
@@ -98,7 +100,7 @@ module _ (s : Scale) (room : Room) where
 
         -- at a stage that awaits no `p` line and no arc
         pub all_asks_are_read :
-            (asks : List Two) → AllByRecursion (WritableAsk n) asks
+            (asks : List Ask) → AllByRecursion (WritableAsk n) asks
             → (stage : Stage) × (awaits stage ≡ false)
             × Reads s room (reading Tail n roads moves []) (ask_lines asks) (reading stage n roads moves asks)
         all_asks_are_read [] t = (Tail, refl, no_line refl)

@@ -4,10 +4,12 @@ use Rattle.std.specs.List.{AllByRecursion}
 use Rattle.std.proofs.ByRecursion.{All-append, All-map, All-weaker}
 use Rattle.std.proofs.lemmas.Bool.{ne_eqb}
 use Rattle.measure.specs.Scale.{Scale}
+use Rattle.roadtext.specs.declared.parts.Room.{Room}
 use Rattle.roadtext.specs.declared.parts.Arc.{Arc}
-use Rattle.roadtext.specs.declared.parts.Two.{Two}
+use Rattle.roadtext.specs.declared.parts.Move.{Move}
+use Rattle.roadtext.specs.declared.parts.Ask.{Ask}
 use Rattle.roadtext.specs.Text.{fields}
-use Rattle.roadtext.specs.Reading.{Room, is_comment}
+use Rattle.roadtext.specs.Reading.{is_comment}
 use Rattle.roadtext.specs.Written.{spaced, head_line, arc_lines, move_line, move_lines, ask_line, ask_lines, written_lines}
 use Rattle.roadtext.specs.Written.{Lacks, without_comments, WritableRoad, WritableMove, WritableAsk, Writable}
 use Rattle.roadtext.proofs.WrittenFields.{fields_of_spaced, spaced_lacks, letter_line_lacks, head_line_lacks, fields_of_letter_line}
@@ -47,19 +49,19 @@ nothing_taken_out [] t = refl
 nothing_taken_out (line ∷ ls) (h, t) =
     ap (λ b. cond (not b) (line ∷ without_comments ls) (without_comments ls)) h.1 ∙ ap (λ x. line ∷ x) (nothing_taken_out ls t)
 
-module _ (s : Scale) (room : Room) (n : ℕ) (roads : List Arc) (moves asks : List Two) (w : Writable s room n roads moves asks) where
+module _ (s : Scale) (room : Room) (n : ℕ) (roads : List Arc) (moves : List Move) (asks : List Ask) (w : Writable s room n roads moves asks) where
   moves_are_plain : AllByRecursion Plain (move_lines moves)
   moves_are_plain =
-      All-map Plain (λ m. move_line m.left m.right) moves
-      (All-weaker (WritableMove n) (λ m. Plain (move_line m.left m.right))
-      (λ m h. letter_line_is_plain 100 (inl (omega arith)) (m.left ∷ m.right ∷ []) (omega arith, (omega arith, tt)))
+      All-map Plain (λ m. move_line m.junction m.district) moves
+      (All-weaker (WritableMove n) (λ m. Plain (move_line m.junction m.district))
+      (λ m h. letter_line_is_plain 100 (inl (omega arith)) (m.junction ∷ m.district ∷ []) (omega arith, (omega arith, tt)))
       moves w.each_move)
 
   asks_are_plain : AllByRecursion Plain (ask_lines asks)
   asks_are_plain =
-      All-map Plain (λ q. ask_line q.left q.right) asks
-      (All-weaker (WritableAsk n) (λ q. Plain (ask_line q.left q.right))
-      (λ q h. letter_line_is_plain 113 (inl (omega arith)) (q.left ∷ q.right ∷ []) (omega arith, (omega arith, tt)))
+      All-map Plain (λ q. ask_line q.from q.to) asks
+      (All-weaker (WritableAsk n) (λ q. Plain (ask_line q.from q.to))
+      (λ q h. letter_line_is_plain 113 (inl (omega arith)) (q.from ∷ q.to ∷ []) (omega arith, (omega arith, tt)))
       asks w.each_ask)
 
   all_are_plain : AllByRecursion Plain (written_lines n roads moves asks)

@@ -1,5 +1,5 @@
 -- What drawing a text, line by line, does to the drawing and to the tables. Assumes nothing.
-use Rattle.std.specs.Prelude.{◌≡◌, ℕ, List, length, Ok, Err, Result, MatchResult}
+use Rattle.std.specs.Prelude.{◌≡◌, ℕ, List, length, Some, None, Option, Ok, Err, Result, MatchResult}
 use Rattle.measure.specs.Scale.{Scale}
 use Rattle.drawing.specs.Edits.{AppendsAnOpenRoad, MovesOneJunction}
 use Rattle.drawing.specs.declared.refusal.Refusal.{Refusal}
@@ -7,7 +7,7 @@ use Rattle.drawing.specs.declared.rest.Rest.{Rest}
 use Rattle.drawing.specs.declared.tables.Junction.{Junction}
 use Rattle.drawing.specs.declared.tables.Road.{Road}
 use Rattle.roadtext.specs.declared.steps.Event.{Event}
-use Rattle.roadtext.specs.declared.steps.Event.TheVariants.{Nothing, Road as RoadRead, Move, Ask}
+use Rattle.roadtext.specs.declared.steps.Event.TheVariants.{Road as RoadRead, Move as MoveRead, Ask as AskRead}
 use Rattle.roadtext.specs.Read.{Draws, room_of}
 use Rattle.roadtext.specs.Reading.{State, read_text}
 use Rattle.roadtext.specs.Steps.{Startable}
@@ -23,13 +23,13 @@ AddsOne s d roads u v x (Ok _) e after = (number : ℕ) × AppendsAnOpenRoad s d
 AddsOne s d roads u v x (Err y) e after = AppendsAnOpenRoad s d roads u v x (Err y) e after
 
 -- what an event adds is drawn
-abbrev pub DrawsEvent : Scale → Rest → List Junction → List Road → Event → Result Unit Refusal → Rest → List Junction → List Road → Type 0
-DrawsEvent s d junctions roads Nothing r e junctions_after roads_after = Leaves d junctions roads r e junctions_after roads_after
-DrawsEvent s d junctions roads (RoadRead a) r e junctions_after roads_after =
+abbrev pub DrawsEvent : Scale → Rest → List Junction → List Road → Option Event → Result Unit Refusal → Rest → List Junction → List Road → Type 0
+DrawsEvent s d junctions roads None r e junctions_after roads_after = Leaves d junctions roads r e junctions_after roads_after
+DrawsEvent s d junctions roads (Some (RoadRead a)) r e junctions_after roads_after =
     AddsOne s d roads a.from a.to a.worth r e roads_after × (junctions_after ≡ junctions)
-DrawsEvent s d junctions roads (Move m) r e junctions_after roads_after =
-    MovesOneJunction d junctions m.left m.right r junctions_after × (e ≡ d) × (roads_after ≡ roads)
-DrawsEvent s d junctions roads (Ask q) r e junctions_after roads_after = Leaves d junctions roads r e junctions_after roads_after
+DrawsEvent s d junctions roads (Some (MoveRead m)) r e junctions_after roads_after =
+    MovesOneJunction d junctions m.junction m.district r junctions_after × (e ≡ d) × (roads_after ≡ roads)
+DrawsEvent s d junctions roads (Some (AskRead q)) r e junctions_after roads_after = Leaves d junctions roads r e junctions_after roads_after
 
 -- a text without fault, with n junctions, is drawn, and nothing in it is refused
 abbrev pub DrawsText : Scale → List ℕ → ℕ → List Junction → List Road → Result Rest Refusal → List Junction → List Road → Type 0

@@ -2,11 +2,15 @@
 use Rattle.std.specs.Prelude.{◌≡◌, ℕ, ◌+◌, ◌<◌, ◌≤◌, Bool, true, false, cond, ◌⊎◌, List, [], ◌∷◌, ◌++◌, length, Ok, Err}
 use Rattle.std.specs.List.{AllByRecursion}
 use Rattle.measure.specs.Scale.{Scale}
+use Rattle.roadtext.specs.declared.fault.Cause.{Cause}
+use Rattle.roadtext.specs.declared.fault.Cause.TheVariants.{Letter, TooLong}
+use Rattle.roadtext.specs.declared.fault.Fault.{Fault}
+use Rattle.roadtext.specs.declared.parts.Room.{Room}
 use Rattle.roadtext.specs.declared.parts.Stage.{Stage}
 use Rattle.roadtext.specs.declared.parts.Stage.TheVariants.{Head, Arc as ArcAwaited, Twin, Tail, Asks}
 use Rattle.roadtext.specs.Text.{lines, fields}
-use Rattle.roadtext.specs.Lines.{Check, letter_out_of_place, too_long}
-use Rattle.roadtext.specs.Reading.{State, nothing_read, Room, Fault, fault, is_comment, line_checks, after_line, read_text}
+use Rattle.roadtext.specs.Lines.{Check}
+use Rattle.roadtext.specs.Reading.{State, nothing_read, fault, is_comment, line_checks, after_line, read_text}
 
 -- the checks of a line: a comment has none
 abbrev pub checks_of : Scale → Room → State → List ℕ → List Check
@@ -31,7 +35,7 @@ NoFault s room st [] = Unit {0}
 NoFault s room st (line ∷ rest) = AllPass (checks_of s room st line) × NoFault s room (with_line st line) rest
 
 -- the first check that fails has this field and this cause
-pub record FailsFirst (checks : List Check) (field cause : ℕ) : Type 0 where
+pub record FailsFirst (checks : List Check) (field : ℕ) (cause : Cause) : Type 0 where
   pub earlier : List Check
   pub failing : Check
   pub later : List Check
@@ -50,7 +54,7 @@ pub record AtALine (s : Scale) (room : Room) (l : ℕ) (st : State) (ls : List (
   pub in_order : ls ≡ earlier ++ (faulty ∷ later)
   pub its_number : f.line ≡ l + length earlier
   pub earlier_have_none : NoFault s room st earlier
-  pub first_of_its_line : FailsFirst (checks_of s room (with_lines st earlier) faulty) f.field_number f.cause
+  pub first_of_its_line : FailsFirst (checks_of s room (with_lines st earlier) faulty) f.field f.cause
 
 -- a `p` line or an arc is awaited
 abbrev pub awaits : Stage → Bool
@@ -64,12 +68,12 @@ awaits Asks = false
 pub record AtTheEnd (s : Scale) (room : Room) (l : ℕ) (st : State) (ls : List (List ℕ)) (f : Fault) : Type 0 where
   pub lines_have_none : NoFault s room st ls
   pub awaited : awaits (with_lines st ls).stage ≡ true
-  pub the_fault : f ≡ fault (l + length ls) 1 letter_out_of_place
+  pub the_fault : f ≡ fault (l + length ls) 1 Letter
 
 -- The first fault of a text: it is too long; or the fault is at a line; or at the end.
 abbrev pub FirstFault : Scale → Room → List ℕ → Fault → Type 0
 FirstFault s room text f =
-    ((65536 < length text) × (f ≡ fault 0 0 too_long))
+    ((65536 < length text) × (f ≡ fault 0 0 TooLong))
     ⊎ ((length text ≤ 65536) × (AtALine s room 1 nothing_read (lines text) f ⊎ AtTheEnd s room 1 nothing_read (lines text) f))
 
 -- A text without fault, and what has been read at its end.

@@ -1,5 +1,5 @@
 pub mod Text
-pub mod Kinds
+pub mod Faults
 pub mod Lines
 pub mod Reading
 pub mod Read
@@ -9,3 +9,4 @@ pub mod FirstFault
 pub mod Written
 pub mod Checked
 pub mod Drawn
+pub mod Walked

@@ -3,33 +3,24 @@ use Rattle.std.specs.Prelude.{ℕ, ◌+◌, ◌%◌, Bool, true, false, cond, no
 use Rattle.std.specs.Option.{unwrap_or}
 use Rattle.measure.specs.Scale.{Scale}
 use Rattle.drawing.specs.Edits.{within}
+use Rattle.drawing.specs.declared.refusal.Refusal.TheVariants.{BadCount, ShortTable, NoJunction, NoDistrict, EndsAlike, NotLawful}
 use Rattle.roadtext.specs.Text.{field, number_in}
+use Rattle.roadtext.specs.declared.fault.Cause.{Cause}
+use Rattle.roadtext.specs.declared.fault.Cause.TheVariants.{Field, Twin as NoTwin, Drawing}
 use Rattle.roadtext.specs.declared.parts.Arc.{Arc}
 use Rattle.roadtext.specs.declared.parts.Head.{Head}
 use Rattle.roadtext.specs.declared.parts.LineFault.{LineFault}
-use Rattle.roadtext.specs.declared.parts.Two.{Two}
+use Rattle.roadtext.specs.declared.parts.Move.{Move}
+use Rattle.roadtext.specs.declared.parts.Ask.{Ask}
 
 -- a check of a line: whether it fails, which field it then faults, and the cause
 pub record Check : Type 0 where
   pub fails : Bool
   pub field_number : ℕ
-  pub cause : ℕ
+  pub cause : Cause
 
-abbrev pub check : ℕ → ℕ → Bool → Check
+abbrev pub check : ℕ → Cause → Bool → Check
 check f x b = record { fails = b; field_number = f; cause = x }
-
--- the causes that are not a drawing's refusal
-abbrev pub letter_out_of_place : ℕ
-letter_out_of_place = 31
-
-abbrev pub bad_field : ℕ
-bad_field = 32
-
-abbrev pub no_twin : ℕ
-no_twin = 33
-
-abbrev pub too_long : ℕ
-too_long = 34
 
 -- field number i is missing, or writes no number
 abbrev pub no_number : List (List ℕ) → ℕ → Bool
@@ -52,21 +43,21 @@ field_is fs i t = cond (is_some (field fs i)) (is_text t (unwrap_or (field fs i)
 -- a number that is a junction of a drawing with n
 abbrev pub junction_checks : ℕ → List (List ℕ) → ℕ → List Check
 junction_checks n fs i =
-    check i bad_field (no_number fs i) ∷ check i 4 (not (within 1 n (number_at fs i))) ∷ []
+    check i Field (no_number fs i) ∷ check i (Drawing NoJunction) (not (within 1 n (number_at fs i))) ∷ []
 
 -- there is no field beyond number i
 abbrev pub end_check : List (List ℕ) → ℕ → Check
-end_check fs i = check (i + 1) bad_field (nat_lt i (length fs))
+end_check fs i = check (i + 1) Field (nat_lt i (length fs))
 
 -- `p sp N A`, with a junction table of so many entries: N junctions, and A arc lines to come
 abbrev pub p_checks : ℕ → List (List ℕ) → List Check
 p_checks places fs =
-    check 2 bad_field (not (field_is fs 2 (115 ∷ 112 ∷ [])))
-    ∷ check 3 bad_field (no_number fs 3)
-    ∷ check 3 2 (not (within 1 4096 (number_at fs 3)))
-    ∷ check 3 3 (nat_lt places (number_at fs 3))
-    ∷ check 4 bad_field (no_number fs 4)
-    ∷ check 4 no_twin (not (number_at fs 4 % 2 == 0))
+    check 2 Field (not (field_is fs 2 (115 ∷ 112 ∷ [])))
+    ∷ check 3 Field (no_number fs 3)
+    ∷ check 3 (Drawing BadCount) (not (within 1 4096 (number_at fs 3)))
+    ∷ check 3 (Drawing (ShortTable (number_at fs 3))) (nat_lt places (number_at fs 3))
+    ∷ check 4 Field (no_number fs 4)
+    ∷ check 4 NoTwin (not (number_at fs 4 % 2 == 0))
     ∷ end_check fs 4
     ∷ []
 
@@ -75,9 +66,9 @@ abbrev pub a_checks : Scale → ℕ → List (List ℕ) → List Check
 a_checks s n fs =
     junction_checks n fs 2
     ++ (junction_checks n fs 3
-    ++ (check 3 6 (number_at fs 2 == number_at fs 3)
-    ∷ check 4 bad_field (no_number fs 4)
-    ∷ check 4 7 (not (s.lawful (number_at fs 4)))
+    ++ (check 3 (Drawing EndsAlike) (number_at fs 2 == number_at fs 3)
+    ∷ check 4 Field (no_number fs 4)
+    ∷ check 4 (Drawing NotLawful) (not (s.lawful (number_at fs 4)))
     ∷ end_check fs 4
     ∷ []))
 
@@ -85,7 +76,7 @@ a_checks s n fs =
 abbrev pub d_checks : ℕ → List (List ℕ) → List Check
 d_checks n fs =
     junction_checks n fs 2
-    ++ (check 3 bad_field (no_number fs 3) ∷ check 3 5 (not (nat_lt (number_at fs 3) 64)) ∷ end_check fs 3 ∷ [])
+    ++ (check 3 Field (no_number fs 3) ∷ check 3 (Drawing NoDistrict) (not (nat_lt (number_at fs 3) 64)) ∷ end_check fs 3 ∷ [])
 
 -- `q S T`: a distance is asked from S to T
 abbrev pub q_checks : ℕ → List (List ℕ) → List Check
@@ -98,8 +89,11 @@ head_in fs = record { junctions = number_at fs 3; arcs = number_at fs 4 }
 abbrev pub arc_in : List (List ℕ) → Arc
 arc_in fs = record { from = number_at fs 2; to = number_at fs 3; worth = number_at fs 4 }
 
-abbrev pub two_in : List (List ℕ) → Two
-two_in fs = record { left = number_at fs 2; right = number_at fs 3 }
+abbrev pub move_in : List (List ℕ) → Move
+move_in fs = record { junction = number_at fs 2; district = number_at fs 3 }
+
+abbrev pub ask_in : List (List ℕ) → Ask
+ask_in fs = record { from = number_at fs 2; to = number_at fs 3 }
 
 -- The value x, if no check of the list fails; otherwise the field and the cause of the first that does.
 abbrev pub passed : {A : Type 0} → List Check → A → Result A LineFault

@@ -12,11 +12,6 @@ abbrev pub lines : List ℕ → List (List ℕ)
 lines [] = []
 lines (b ∷ bs) = cond (b == 10) ([] ∷ lines bs) (put_first b (lines bs))
 
--- the place of the first such byte, or the length where there is none
-abbrev pub place_of : ℕ → List ℕ → ℕ
-place_of b [] = 0
-place_of b (x ∷ xs) = cond (x == b) 0 (suc (place_of b xs))
-
 -- the lines of a text are this first one and those of the rest, which is shorter
 pub record CutLine (text first rest : List ℕ) : Type 0 where
   pub lines_are : lines text ≡ first ∷ lines rest

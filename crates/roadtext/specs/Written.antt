@@ -3,10 +3,12 @@
 use Rattle.std.specs.Prelude.{◌≡◌, ℕ, ◌*◌, ◌^◌, ◌<◌, ◌≤◌, not, List, [], ◌∷◌, ◌++◌, map, length, Ok, decimal, filter, ◌≢◌}
 use Rattle.std.specs.List.{AllByRecursion}
 use Rattle.measure.specs.Scale.{Scale, Lawful}
+use Rattle.roadtext.specs.declared.parts.Room.{Room}
 use Rattle.roadtext.specs.declared.parts.Arc.{Arc}
-use Rattle.roadtext.specs.declared.parts.Two.{Two}
+use Rattle.roadtext.specs.declared.parts.Move.{Move}
+use Rattle.roadtext.specs.declared.parts.Ask.{Ask}
 use Rattle.roadtext.specs.Text.{lines, fields}
-use Rattle.roadtext.specs.Reading.{State, Room, is_comment, read_text}
+use Rattle.roadtext.specs.Reading.{State, is_comment, read_text}
 
 -- fields parted by single spaces
 abbrev pub spaced : List ℕ → List (List ℕ) → List ℕ
@@ -34,14 +36,14 @@ abbrev pub arc_lines : List Arc → List (List ℕ)
 arc_lines [] = []
 arc_lines (a ∷ more) = arc_line a.from a.to a.worth ∷ arc_line a.to a.from a.worth ∷ arc_lines more
 
-abbrev pub move_lines : List Two → List (List ℕ)
-move_lines moves = map (λ m. move_line m.left m.right) moves
+abbrev pub move_lines : List Move → List (List ℕ)
+move_lines moves = map (λ m. move_line m.junction m.district) moves
 
-abbrev pub ask_lines : List Two → List (List ℕ)
-ask_lines asks = map (λ q. ask_line q.left q.right) asks
+abbrev pub ask_lines : List Ask → List (List ℕ)
+ask_lines asks = map (λ q. ask_line q.from q.to) asks
 
 -- the lines of a network with n junctions, its roads and its moves, and of the asks
-abbrev pub written_lines : ℕ → List Arc → List Two → List Two → List (List ℕ)
+abbrev pub written_lines : ℕ → List Arc → List Move → List Ask → List (List ℕ)
 written_lines n roads moves asks =
     head_line n (2 * length roads) ∷ (arc_lines roads ++ (move_lines moves ++ ask_lines asks))
 
@@ -71,15 +73,15 @@ pub record WritableRoad (s : Scale) (n : ℕ) (a : Arc) : Type 0 where
   pub at_most_ten_digits : a.worth < 10 ^ 10
 
 -- a junction and one of 64 districts
-abbrev pub WritableMove : ℕ → Two → Type 0
-WritableMove n m = JunctionOf n m.left × (m.right < 64)
+abbrev pub WritableMove : ℕ → Move → Type 0
+WritableMove n m = JunctionOf n m.junction × (m.district < 64)
 
 -- two junctions
-abbrev pub WritableAsk : ℕ → Two → Type 0
-WritableAsk n q = JunctionOf n q.left × JunctionOf n q.right
+abbrev pub WritableAsk : ℕ → Ask → Type 0
+WritableAsk n q = JunctionOf n q.from × JunctionOf n q.to
 
 -- The network is within the limits, and there is room for it; the asks are of its junctions.
-pub record Writable (s : Scale) (room : Room) (n : ℕ) (roads : List Arc) (moves asks : List Two) : Type 0 where
+pub record Writable (s : Scale) (room : Room) (n : ℕ) (roads : List Arc) (moves : List Move) (asks : List Ask) : Type 0 where
   pub some_junction : 1 ≤ n
   pub few_junctions : n ≤ 4096
   pub enough_places : n ≤ room.places
@@ -90,7 +92,7 @@ pub record Writable (s : Scale) (room : Room) (n : ℕ) (roads : List Arc) (move
   pub each_ask : AllByRecursion (WritableAsk n) asks
 
 -- what has been read is this network and these asks
-pub record IsRead (s : Scale) (room : Room) (text : List ℕ) (n : ℕ) (roads : List Arc) (moves asks : List Two) : Type 0 where
+pub record IsRead (s : Scale) (room : Room) (text : List ℕ) (n : ℕ) (roads : List Arc) (moves : List Move) (asks : List Ask) : Type 0 where
   pub state : State
   pub without_fault : read_text s room text ≡ Ok state
   pub same_junctions : state.junctions ≡ n
@@ -100,7 +102,7 @@ pub record IsRead (s : Scale) (room : Room) (text : List ℕ) (n : ℕ) (roads :
 
 -- Any text of at most 65,536 bytes whose lines, comments aside, are the written lines, is read back. There are such texts:
 -- lines without byte 10 are the lines of a text, and the written lines have no byte 10, and are no comments.
-pub record ReadsBack (s : Scale) (room : Room) (n : ℕ) (roads : List Arc) (moves asks : List Two) : Type 0 where
+pub record ReadsBack (s : Scale) (room : Room) (n : ℕ) (roads : List Arc) (moves : List Move) (asks : List Ask) : Type 0 where
   pub is_read_back :
       (text : List ℕ) → length text ≤ 65536 → without_comments (lines text) ≡ written_lines n roads moves asks
       → IsRead s room text n roads moves asks

@@ -1,28 +1,28 @@
 // Drawing a text that has no fault.
 ghost use Rattle.roadtext.specs.Drawn.{DrawsEvent, DrawsText};
 
-use super::checking::begin;
-use super::lines::cut_line;
+use super::parts::Room;
 use super::steps::Event;
+use super::walk::Walk;
 use drawing::{Junction, MOST_DISTRICTS, Refusal, Rest, Road};
 use measure::Measure;
 
 // Draws what one line adds.
 fn draw_event<M: Measure>(
     drawing: &mut Rest,
-    event: Event,
+    event: Option<Event>,
     junctions: &mut [Junction],
     roads: &mut [Road],
 ) -> Result<(), Refusal>
     ensures { DrawsEvent M.Measure.scale drawing.old junctions.old roads.old event result drawing.new junctions.new roads.new }
 {
     match event {
-        Event::Road(arc) => {
+        Some(Event::Road(arc)) => {
             drawing.add::<M>(roads, arc.from, arc.to, arc.worth)?;
             Ok(())
         }
-        Event::Move(two) => drawing.assign(junctions, two.left, two.right),
-        Event::Nothing | Event::Ask(_) => Ok(()),
+        Some(Event::Move(moved)) => drawing.assign(junctions, moved.junction, moved.district),
+        None | Some(Event::Ask(_)) => Ok(()),
     }
 }
 
@@ -35,16 +35,17 @@ pub(crate) fn draw<M: Measure>(
 ) -> Result<Rest, Refusal>
     ensures { DrawsText M.Measure.scale text.now count junctions.old roads.old result junctions.new roads.new }
 {
-    let mut progress = begin(junctions.len() as u64, roads.len() as u64);
+    // written out here and in `read`: a function for it leaves that proof open (tried)
+    let room = Room {
+        places: junctions.len() as u64,
+        records: roads.len() as u64,
+    };
     let mut drawing = Rest::start::<M>(count, MOST_DISTRICTS, junctions)?;
-    let mut rest = text;
-    while let Some((line, more)) = cut_line(rest) {
-        let Ok(step) = progress.step::<M>(line) else {
+    for event in Walk::<M>::over(text, room) {
+        let Ok(event) = event else {
             return Ok(drawing);
         };
-        draw_event::<M>(&mut drawing, step.event, junctions, roads)?;
-        progress = step.progress;
-        rest = more;
+        draw_event::<M>(&mut drawing, event, junctions, roads)?;
     }
     Ok(drawing)
 }

@@ -1,8 +1,13 @@
 // The lines of a text.
-ghost use Rattle.std.specs.Prelude.{◌≡◌, [], MatchOption};
+ghost use Rattle.std.specs.Prelude.{◌≡◌, [], ◌==◌, MatchOption, position};
 ghost use Rattle.roadtext.specs.Text.{lines, CutLine};
 
-use super::fields::find;
+// The place of the first line end.
+fn line_end(text: &[u8]) -> Option<usize>
+    ensures { result ≡ position (λ b. b == 10) text.now }
+{
+    text.iter().position(|b| *b == b'\n')
+}
 
 // The first line of a text, without its end, and what comes after it; nothing where the text has no byte.
 pub(crate) fn cut_line(text: &[u8]) -> Option<(&[u8], &[u8])>
@@ -11,9 +16,8 @@ pub(crate) fn cut_line(text: &[u8]) -> Option<(&[u8], &[u8])>
     if text.is_empty() {
         return None;
     }
-    let end = find(text, b'\n');
-    if end >= text.len() {
-        return Some((text, &text[end..]));
+    match line_end(text) {
+        Some(end) => Some((&text[..end], &text[end + 1..])),
+        None => Some((text, &[])),
     }
-    Some((&text[0..end], &text[end + 1..]))
 }

@@ -5,6 +5,7 @@ use super::asks::asks_in;
 use super::checking::check;
 use super::draw::draw;
 use super::outcome::{Reading, Unread};
+use super::parts::Room;
 use drawing::{Junction, Road};
 use measure::Measure;
 use std::alloc::Global;
@@ -19,10 +20,15 @@ pub fn read<M: Measure>(
 ) -> Result<Reading, Unread>
     ensures { ReadsTheText M.Measure.scale text.now junctions.old roads.old result junctions.new roads.new }
 {
-    let places = junctions.len() as u64;
-    let records = roads.len() as u64;
-    let count = check::<M>(text, places, records)?;
-    let asks = asks_in::<M>(heap, text, places, records)?;
-    let drawing = draw::<M>(text, count, junctions, roads)?;
+    let room = Room {
+        places: junctions.len() as u64,
+        records: roads.len() as u64,
+    };
+    let count = check::<M>(text, room)?;
+    let asks = asks_in::<M>(heap, text, room)?;
+    let Ok(drawing) = draw::<M>(text, count, junctions, roads) else {
+        // nothing is refused in a text without fault
+        unreachable!()
+    };
     Ok(Reading { drawing, asks })
 }

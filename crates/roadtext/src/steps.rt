@@ -1,41 +1,40 @@
 // One line of a text: what it adds to what has been read.
-ghost use Rattle.std.specs.Prelude.{◌≡◌};
+ghost use Rattle.std.specs.Prelude.{◌≡◌, Some};
 ghost use Rattle.roadtext.specs.Text.{fields};
-ghost use Rattle.roadtext.specs.Lines.{p_checks, a_checks, d_checks, q_checks, passed, head_in, arc_in, two_in};
-ghost use Rattle.roadtext.specs.Reading.{is_twin_lem, arcs_to_come_lem};
+ghost use Rattle.roadtext.specs.Lines.{p_checks, a_checks, d_checks, q_checks, passed, head_in, arc_in, move_in, ask_in};
+ghost use Rattle.roadtext.specs.Reading.{arcs_to_come_lem};
 ghost use Rattle.roadtext.specs.Steps.{Steps, moved_to, head_step, arc_step, road_checks, twin_checks, twin_step};
 ghost use Rattle.roadtext.specs.declared.parts.Stage.TheVariants.{Tail, Asks};
-ghost use Rattle.roadtext.specs.declared.steps.Event.TheVariants.{Move, Ask};
+ghost use Rattle.roadtext.specs.declared.steps.Event.TheVariants.{Move as MoveRead, Ask as AskRead};
 
-use super::line::{LETTER, TWIN, kind, read_arc, read_ask, read_head, read_move};
-use super::parts::{Arc, Head, Kind, LineFault, Stage, Two};
-use drawing::MOST_ROADS;
+use super::fault::Cause;
+use super::line::{letter, read_arc, read_ask, read_head, read_move};
+use super::parts::{Arc, Ask, Head, LineFault, Move, Room, Stage};
+use drawing::{MOST_ROADS, Refusal};
 use measure::Measure;
 
-// How far the reading has come: the entries of the two tables, which line is awaited, and how many junctions and roads there are.
-#[derive(Clone, Copy)]
+// How far the reading has come: the room in the two tables, which line is awaited, and how many junctions and roads there are.
+#[derive(Clone, Copy, PartialEq, Eq, Debug)]
 pub(crate) struct Progress {
-    pub(crate) places: u64,
-    pub(crate) records: u64,
+    pub(crate) room: Room,
     pub(crate) stage: Stage,
     pub(crate) junctions: u64,
     pub(crate) roads: u64,
 }
 
-// What a line adds: nothing, a road, a move or an ask.
-#[derive(Clone, Copy)]
+// What a line may add: a road, a move or an ask.
+#[derive(Clone, Copy, PartialEq, Eq, Debug)]
 pub(crate) enum Event {
-    Nothing,
     Road(Arc),
-    Move(Two),
-    Ask(Two),
+    Move(Move),
+    Ask(Ask),
 }
 
-// A line read: how far that brings the reading, and what the line adds.
-#[derive(Clone, Copy)]
+// A line read: how far that brings the reading, and what the line adds, if anything.
+#[derive(Clone, Copy, PartialEq, Eq, Debug)]
 pub(crate) struct Step {
     pub(crate) progress: Progress,
-    pub(crate) event: Event,
+    pub(crate) event: Option<Event>,
 }
 
 // What is awaited when so many arc lines are to come.
@@ -49,16 +48,9 @@ fn arcs_to_come(left: u64) -> Stage
     }
 }
 
-// The second arc is the first with its ends exchanged.
-fn is_twin(first: Arc, second: Arc) -> bool
-    ensures { result ≡ is_twin_lem first second }
-{
-    first.from == second.to && first.to == second.from && first.worth == second.worth
-}
-
 impl Progress {
     // The next stage is this one.
-    fn moved_to(&self, stage: Stage, event: Event) -> Step
+    fn moved_to(&self, stage: Stage, event: Option<Event>) -> Step
         ensures { result ≡ moved_to self.now stage event }
     {
         Step {
@@ -71,14 +63,17 @@ impl Progress {
     fn check_twin(&self, first: Arc, second: Arc) -> Result<(), LineFault>
         ensures { result ≡ passed (road_checks self.now first second) tt }
     {
-        if !is_twin(first, second) {
+        if second != first.reversed() {
             return Err(LineFault {
                 field: 1,
-                cause: TWIN,
+                cause: Cause::Twin,
             });
         }
-        if self.roads >= MOST_ROADS || self.roads >= self.records {
-            return Err(LineFault { field: 1, cause: 8 });
+        if self.roads >= MOST_ROADS || self.roads >= self.room.records {
+            return Err(LineFault {
+                field: 1,
+                cause: Cause::Drawing(Refusal::RoadsFull),
+            });
         }
         Ok(())
     }
@@ -94,15 +89,15 @@ impl Progress {
                 junctions: head.junctions,
                 ..*self
             },
-            event: Event::Nothing,
+            event: None,
         }
     }
 
     // The `p` line.
     fn head(&self, line: &[u8]) -> Result<Step, LineFault>
-        ensures { result ≡ passed (p_checks self.now.places (fields line.now)) (head_step self.now (head_in (fields line.now))) }
+        ensures { result ≡ passed (p_checks self.now.room.places (fields line.now)) (head_step self.now (head_in (fields line.now))) }
     {
-        let head = read_head(line, self.places)?;
+        let head = read_head(line, self.room.places)?;
         Ok(self.headed(head))
     }
 
@@ -111,7 +106,7 @@ impl Progress {
         ensures { result ≡ passed (a_checks M.Measure.scale self.now.junctions (fields line.now)) (arc_step self.now left (arc_in (fields line.now))) }
     {
         let arc = read_arc::<M>(line, self.junctions)?;
-        Ok(self.moved_to(Stage::Twin(arc, left.saturating_sub(2)), Event::Nothing))
+        Ok(self.moved_to(Stage::Twin(arc, left.saturating_sub(2)), None))
     }
 
     // The twin of an arc, while so many are to come after it.
@@ -127,41 +122,42 @@ impl Progress {
                 roads: self.roads + 1,
                 ..*self
             },
-            event: Event::Road(first),
+            event: Some(Event::Road(first)),
         })
     }
 
     // A `q` line.
     fn ask(&self, line: &[u8]) -> Result<Step, LineFault>
-        ensures { result ≡ passed (q_checks self.now.junctions (fields line.now)) (moved_to self.now Asks (Ask (two_in (fields line.now)))) }
+        ensures { result ≡ passed (q_checks self.now.junctions (fields line.now)) (moved_to self.now Asks (Some (AskRead (ask_in (fields line.now))))) }
     {
-        let two = read_ask(line, self.junctions)?;
-        Ok(self.moved_to(Stage::Asks, Event::Ask(two)))
+        let ask = read_ask(line, self.junctions)?;
+        Ok(self.moved_to(Stage::Asks, Some(Event::Ask(ask))))
     }
 
     // A `d` line.
     fn move_line(&self, line: &[u8]) -> Result<Step, LineFault>
-        ensures { result ≡ passed (d_checks self.now.junctions (fields line.now)) (moved_to self.now Tail (Move (two_in (fields line.now)))) }
+        ensures { result ≡ passed (d_checks self.now.junctions (fields line.now)) (moved_to self.now Tail (Some (MoveRead (move_in (fields line.now))))) }
     {
-        let two = read_move(line, self.junctions)?;
-        Ok(self.moved_to(Stage::Tail, Event::Move(two)))
+        let moved = read_move(line, self.junctions)?;
+        Ok(self.moved_to(Stage::Tail, Some(Event::Move(moved))))
     }
 
     // The next line: its fault, or the step that it makes.
     pub(crate) fn step<M: Measure>(&self, line: &[u8]) -> Result<Step, LineFault>
         ensures { Steps M.Measure.scale (fields line.now) self.now result }
     {
-        match (kind(line), self.stage) {
-            (Kind::Comment, _) => Ok(self.moved_to(self.stage, Event::Nothing)),
-            (Kind::Head, Stage::Head) => self.head(line),
-            (Kind::Arc, Stage::Arc(left)) => self.arc::<M>(line, left),
-            (Kind::Arc, Stage::Twin(first, left)) => self.twin::<M>(line, first, left),
-            (Kind::Move, Stage::Tail) => self.move_line(line),
-            (Kind::Ask, Stage::Tail) => self.ask(line),
-            (Kind::Ask, Stage::Asks) => self.ask(line),
+        match (letter(line), self.stage) {
+            (Some('c'), stage) => Ok(self.moved_to(stage, None)),
+            (Some('p'), Stage::Head) => self.head(line),
+            (Some('a'), Stage::Arc(left)) => self.arc::<M>(line, left),
+            (Some('a'), Stage::Twin(first, left)) => self.twin::<M>(line, first, left),
+            (Some('d'), Stage::Tail) => self.move_line(line),
+            // two arms: in one for both stages the proof does not know which it is (tried)
+            (Some('q'), Stage::Tail) => self.ask(line),
+            (Some('q'), Stage::Asks) => self.ask(line),
             _ => Err(LineFault {
                 field: 1,
-                cause: LETTER,
+                cause: Cause::Letter,
             }),
         }
     }

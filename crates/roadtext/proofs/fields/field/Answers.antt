@@ -1,31 +1,20 @@
--- Each space passed leaves one field behind. Assumes nothing.
-use Rattle.std.proofs.Common.{◌≡◌, ◌+◌, ◌-◌, sym, ap, ◌∙◌, arith, length-drop}
-use native.Mathlib.Nat.{sub-zero}
-use Rattle.std.proofs.lemmas.List.{take_rest}
-use Rattle.roadtext.specs.Text.{fields, field}
-use Rattle.roadtext.proofs.FieldNumbers.{field_zero, field_on, field_none, field_first}
+-- The parts that single spaces cut are the fields, and are counted from 0. Assumes nothing.
+use Rattle.std.proofs.Common.{◌≡◌, sym, ap, ◌∙◌, eqb, rules, arith}
+use Rattle.std.specs.List.{slice_get}
+use Rattle.std.proofs.lemmas.Iterator.Consumers.{nth_from_yields_List}
+use Rattle.std.proofs.lemmas.Iterator.Splits.{YieldsList-from_slice_split}
+use Rattle.roadtext.specs.Text.{fields}
+use Rattle.roadtext.proofs.FieldNumbers.{fields_are_parts, field_after, field_zero}
 use Rattle.roadtext.proofs.fields.field.Goals as goal
 
-pub returns-then-end-rest : goal.returns-then-end-rest
-returns-then-end-rest c =
-    sym (field_none c.loop.rest.now c.find-end.result c.find-end.ensures.place (c.args.i + 1 - c.loop.counter) c.if-end-rest.true (omega arith))
-    ∙ c.loop.invariant.0
-
-pub loop-preserved : goal.loop-preserved
-loop-preserved c =
-    let next : c.args.i + 1 - (c.loop.counter + 1) + 1 ≡ c.args.i + 1 - c.loop.counter = omega arith in
-    rw take_rest (
-      sym (field_on c.loop.rest.now c.find-end.result c.find-end.ensures.place (c.args.i + 1 - (c.loop.counter + 1)) c.if-end-rest.false (omega arith))
-          ∙ ap (field (fields c.loop.rest.now)) next ∙ c.loop.invariant.0,
-      simp length-drop (omega arith),
-    )
-
-pub returns-then-i-eq0 : goal.returns-then-i-eq0
-returns-then-i-eq0 c = rw c.if-i-eq0.true (sym (field_zero (fields c.args.line.now)))
+pub returns-in_err-before : goal.returns-in_err-before
+returns-in_err-before c =
+    let none : c.args.i ≡ 0 = omega arith in
+    rw (c.from_residual.ensures, none) (sym (field_zero (fields c.args.line.now)))
 
 pub returns : goal.returns
 returns c =
-    let one : 1 ≡ c.args.i + 1 - c.loop.counter = omega (arith, c.loop.auto.counter-end) in
-    rw sub-zero
-    (sym (field_first c.loop.rest.now c.find-end-2.result c.find-end-2.ensures.place)
-    ∙ ap (field (fields c.loop.rest.now)) one ∙ c.loop.invariant.0)
+    nth_from_yields_List c.nth.result c.nth.new.self c.in_ok-before.before c.nth.ensures.ran
+    (YieldsList-from_slice_split _ (λ b. eqb b 32) c.args.line.now c.split.ensures.rest c.split.ensures.done c.split.ensures.closure (λ x r q k. search rules))
+    ∙ ap (λ fs. slice_get fs c.in_ok-before.before) (fields_are_parts c.args.line.now)
+    ∙ field_after (fields c.args.line.now) c.args.i c.in_ok-before.before (omega arith)

@@ -1,16 +1,11 @@
 -- The first line ends at the first byte 10. Assumes nothing.
-use Rattle.std.proofs.Common.{ap, rules}
-use native.Mathlib.Nat.{sub-zero}
-use Rattle.std.proofs.lemmas.List.{nil_from_length, take_rest}
-use Rattle.roadtext.specs.Text.{lines}
+use Rattle.std.proofs.Common.{rules}
+use Rattle.std.proofs.lemmas.List.{take_rest}
 use Rattle.roadtext.proofs.Pieces.{line_cut, line_whole}
 use Rattle.roadtext.proofs.lines.cut_line.Goals as goal
 
-pub returns-then-is_empty : goal.returns-then-is_empty
-returns-then-is_empty c = ap lines (nil_from_length c.args.text.now (search rules))
+pub returns-in-None : goal.returns-in-None
+returns-in-None c = line_whole c.args.text.now (search rules) c.in-None.ensures
 
-pub returns-then-end-text : goal.returns-then-end-text
-returns-then-end-text c = rw take_rest (line_whole c.args.text.now c.find-end.result c.find-end.ensures.place (search rules) c.if-end-text.true)
-
-pub returns : goal.returns
-returns c = rw (take_rest, sub-zero) (line_cut c.args.text.now c.find-end.result c.find-end.ensures.place c.if-end-text.false)
+pub returns-in-Some : goal.returns-in-Some
+returns-in-Some c = rw take_rest (line_cut c.args.text.now c.in-Some.end c.in-Some.ensures)

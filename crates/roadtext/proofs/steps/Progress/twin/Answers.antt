@@ -1,4 +1,4 @@
-use Rattle.std.proofs.Common.{◌≡◌, ℕ, ◌+◌, List, Ok, Err, Result, ap, ◌∙◌}
+use Rattle.std.proofs.Common.{◌≡◌, ℕ, ◌+◌, List, Some, Ok, Err, Result, ap, ◌∙◌}
 use Rattle.roadtext.specs.declared.parts.Arc.{Arc}
 use Rattle.roadtext.specs.declared.parts.LineFault.{LineFault}
 use Rattle.roadtext.specs.declared.parts.Stage.{Stage}
@@ -14,7 +14,7 @@ use Rattle.roadtext.proofs.steps.Progress.twin.Goals as goal
 
 -- the step to a stage, with one road more
 abbrev step_at : Progress → Arc → Stage → Step
-step_at p a g = record { progress = record { places = p.places; records = p.records; stage = g; junctions = p.junctions; roads = p.roads + 1 }; event = Road a }
+step_at p a g = record { progress = record { room = p.room; stage = g; junctions = p.junctions; roads = p.roads + 1 }; event = Some (Road a) }
 
 stepped_to : (p : Progress) (a : Arc) (g : Stage) (left : ℕ) (ds : List Check) → g ≡ arcs_to_come_lem left → Ok (twin_step p a left) ≡ passed ds (twin_step p a left) → Ok (step_at p a g) ≡ passed ds (twin_step p a left)
 stepped_to p a g left ds e h = ap (λ q. Ok (step_at p a q)) e ∙ h
@@ -31,8 +31,7 @@ returns-in_err-second g c =
     let ds = road_checks p c.args.first (arc_in fs) in
     let z = twin_step p c.args.first c.args.left in
     let f = c.in_err-second.field-0.0 in
-    passed_on c.from_residual.result f c.from_residual.ensures.1
-    ∙ fails_first cs ds (arc_in fs) z f c.in_err-second.ensures
+    passed_on c.from_residual.result f c.from_residual.ensures.1 ∙ fails_first cs ds (arc_in fs) z f c.in_err-second.ensures
 
 pub returns-in_err-check_twin : goal.returns-in_err-check_twin
 returns-in_err-check_twin g c =
