@@ -1,5 +1,6 @@
 -- The fields of a line by number. Assumes nothing.
-use Rattle.std.proofs.Common.{◌≡◌, ℕ, zero, suc, ◌+◌, true, false, cond, eqb, ltb, List, [], ◌∷◌, length, is_some, Some, None, sym, refl, ap, ◌∙◌, add-one, arith}
+use Rattle.std.proofs.Common.{◌≡◌, ℕ, zero, suc, ◌+◌, true, false, cond, eqb, ltb, List, [], ◌∷◌, length, is_some, Some, None, Option, Bor, sym, refl, ap, ◌∙◌, add-one, arith}
+use Rattle.std.specs.Option.{option_map}
 use Rattle.std.specs.List.{slice_get, slice_split, onto_first}
 use Rattle.std.proofs.lemmas.Bool.{lt-ltb, le-ltb}
 use Rattle.std.proofs.lemmas.Bool.Decides.{nat_tests}
@@ -36,8 +37,7 @@ field_beyond [] i = sym (le-ltb i 0 (omega arith))
 field_beyond (f ∷ fs) zero = sym (lt-ltb 0 (suc (length fs)) (omega arith))
 field_beyond (f ∷ fs) (suc i) = field_beyond fs i ∙ grind (arith, nat_tests)
 
-pub field_absent : (fs : List (List ℕ)) (i : ℕ) → None ≡ field fs (i + 1) → ltb i (length fs) ≡ false
-field_absent fs i e = sym (field_beyond fs i) ∙ ap is_some (sym (rw add-one at e))
-
-pub field_present : (fs : List (List ℕ)) (i : ℕ) (f : List ℕ) → Some f ≡ field fs (i + 1) → ltb i (length fs) ≡ true
-field_present fs i f e = sym (field_beyond fs i) ∙ ap is_some (sym (rw add-one at e))
+-- a field after number i was found exactly if there are more than i
+pub is_there : (fs : List (List ℕ)) (i : ℕ) (o : Option (Bor (List ℕ))) → option_map (λ x. x.now) o ≡ field fs (i + 1) → is_some o ≡ ltb i (length fs)
+is_there fs i None e = ap is_some (rw add-one at e) ∙ field_beyond fs i
+is_there fs i (Some x) e = ap is_some (rw add-one at e) ∙ field_beyond fs i

@@ -3,8 +3,7 @@ ghost use Rattle.std.specs.Prelude.{◌≡◌, ◌^◌, ◌<◌, [], ◌∷◌, 
 ghost use Rattle.roadtext.specs.Text.{fields, letter_of};
 ghost use Rattle.roadtext.specs.Lines.{check, no_number, number_at, field_is, junction_checks, end_check, p_checks, a_checks, d_checks, q_checks, passed};
 ghost use Rattle.roadtext.specs.Lines.{head_in, arc_in, move_in, ask_in};
-ghost use Rattle.drawing.specs.declared.refusal.Refusal.TheVariants.{EndsAlike};
-ghost use Rattle.roadtext.specs.declared.fault.Cause.TheVariants.{Field, Drawing};
+ghost use Rattle.roadtext.specs.declared.fault.Cause.TheVariants.{Field};
 
 use super::fault::Cause;
 use super::fields::{field, number};
@@ -32,31 +31,28 @@ fn number_at(line: &[u8], i: u64) -> Result<u64, LineFault>
     })
 }
 
+// Faults a field for this cause, where a check of it fails.
+pub(crate) fn fault_if(fails: bool, field: u64, cause: Cause) -> Result<(), LineFault>
+    ensures { result ≡ passed (check field cause fails ∷ []) tt }
+{
+    if fails {
+        Err(LineFault { field, cause })
+    } else {
+        Ok(())
+    }
+}
+
 // The junction in field number `i`, of a drawing with so many.
 fn junction_at(line: &[u8], i: u64, junctions: u64) -> Result<u64, LineFault>
     ensures { result ≡ passed (junction_checks junctions (fields line.now) i) (number_at (fields line.now) i) }
 {
     let n = number_at(line, i)?;
-    if n < 1 || n > junctions {
-        return Err(LineFault {
-            field: i,
-            cause: Cause::Drawing(Refusal::NoJunction),
-        });
-    }
+    fault_if(
+        n < 1 || n > junctions,
+        i,
+        Cause::Drawing(Refusal::NoJunction),
+    )?;
     Ok(n)
-}
-
-// The ends of an arc, in fields 2 and 3, are two junctions.
-fn check_ends(from: u64, to: u64) -> Result<(), LineFault>
-    ensures { result ≡ passed (check 3 (Drawing EndsAlike) (from == to) ∷ []) tt }
-{
-    if from == to {
-        return Err(LineFault {
-            field: 3,
-            cause: Cause::Drawing(Refusal::EndsAlike),
-        });
-    }
-    Ok(())
 }
 
 // There is no field after number `i`.
@@ -64,13 +60,7 @@ fn end_after(line: &[u8], i: u64) -> Result<(), LineFault>
     requires { i < 2 ^ 32 }
     ensures { result ≡ passed (end_check (fields line.now) i ∷ []) tt }
 {
-    match field(line, i + 1) {
-        None => Ok(()),
-        Some(_) => Err(LineFault {
-            field: i + 1,
-            cause: Cause::Field,
-        }),
-    }
+    fault_if(field(line, i + 1).is_some(), i + 1, Cause::Field)
 }
 
 // Whether field 2 is the word `sp`.
@@ -84,32 +74,14 @@ fn has_sp(line: &[u8]) -> bool
 pub(crate) fn read_head(line: &[u8], places: u64) -> Result<Head, LineFault>
     ensures { result ≡ passed (p_checks places (fields line.now)) (head_in (fields line.now)) }
 {
-    if !has_sp(line) {
-        return Err(LineFault {
-            field: 2,
-            cause: Cause::Field,
-        });
-    }
+    fault_if(!has_sp(line), 2, Cause::Field)?;
     let junctions = number_at(line, 3)?;
-    if junctions < 1 || junctions > MOST_JUNCTIONS {
-        return Err(LineFault {
-            field: 3,
-            cause: Cause::Drawing(Refusal::BadCount),
-        });
-    }
-    if places < junctions {
-        return Err(LineFault {
-            field: 3,
-            cause: Cause::Drawing(Refusal::ShortTable { needed: junctions }),
-        });
-    }
+    let bad_count = junctions < 1 || junctions > MOST_JUNCTIONS;
+    fault_if(bad_count, 3, Cause::Drawing(Refusal::BadCount))?;
+    let too_short = Refusal::ShortTable { needed: junctions };
+    fault_if(places < junctions, 3, Cause::Drawing(too_short))?;
     let arcs = number_at(line, 4)?;
-    if arcs % 2 != 0 {
-        return Err(LineFault {
-            field: 4,
-            cause: Cause::Twin,
-        });
-    }
+    fault_if(arcs % 2 != 0, 4, Cause::Twin)?;
     end_after(line, 4)?;
     Ok(Head { junctions, arcs })
 }
@@ -120,14 +92,9 @@ pub(crate) fn read_arc<M: Measure>(line: &[u8], junctions: u64) -> Result<Arc, L
 {
     let from = junction_at(line, 2, junctions)?;
     let to = junction_at(line, 3, junctions)?;
-    check_ends(from, to)?;
+    fault_if(from == to, 3, Cause::Drawing(Refusal::EndsAlike))?;
     let worth = number_at(line, 4)?;
-    if !M::is_lawful(worth) {
-        return Err(LineFault {
-            field: 4,
-            cause: Cause::Drawing(Refusal::NotLawful),
-        });
-    }
+    fault_if(!M::is_lawful(worth), 4, Cause::Drawing(Refusal::NotLawful))?;
     end_after(line, 4)?;
     Ok(Arc { from, to, worth })
 }
@@ -138,12 +105,11 @@ pub(crate) fn read_move(line: &[u8], junctions: u64) -> Result<Move, LineFault>
 {
     let junction = junction_at(line, 2, junctions)?;
     let district = number_at(line, 3)?;
-    if district >= MOST_DISTRICTS {
-        return Err(LineFault {
-            field: 3,
-            cause: Cause::Drawing(Refusal::NoDistrict),
-        });
-    }
+    fault_if(
+        district >= MOST_DISTRICTS,
+        3,
+        Cause::Drawing(Refusal::NoDistrict),
+    )?;
     end_after(line, 3)?;
     Ok(Move { junction, district })
 }

@@ -8,7 +8,7 @@ ghost use Rattle.roadtext.specs.declared.parts.Stage.TheVariants.{Tail, Asks};
 ghost use Rattle.roadtext.specs.declared.steps.Event.TheVariants.{Move as MoveRead, Ask as AskRead};
 
 use super::fault::Cause;
-use super::line::{letter, read_arc, read_ask, read_head, read_move};
+use super::line::{fault_if, letter, read_arc, read_ask, read_head, read_move};
 use super::parts::{Arc, Ask, Head, LineFault, Move, Room, Stage};
 use drawing::{MOST_ROADS, Refusal};
 use measure::Measure;
@@ -63,19 +63,9 @@ impl Progress {
     fn check_twin(&self, first: Arc, second: Arc) -> Result<(), LineFault>
         ensures { result ≡ passed (road_checks self.now first second) tt }
     {
-        if second != first.reversed() {
-            return Err(LineFault {
-                field: 1,
-                cause: Cause::Twin,
-            });
-        }
-        if self.roads >= MOST_ROADS || self.roads >= self.room.records {
-            return Err(LineFault {
-                field: 1,
-                cause: Cause::Drawing(Refusal::RoadsFull),
-            });
-        }
-        Ok(())
+        fault_if(second != first.reversed(), 1, Cause::Twin)?;
+        let full = self.roads >= MOST_ROADS || self.roads >= self.room.records;
+        fault_if(full, 1, Cause::Drawing(Refusal::RoadsFull))
     }
 
     // After the `p` line: its arcs are to come.
