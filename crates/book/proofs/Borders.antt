@@ -1,13 +1,13 @@
 -- The marks of the borders so far, one border further. Assumes nothing.
-use Rattle.std.proofs.Common.{◌≡◌, ℕ, ◌+◌, ◌<◌, ◌≤◌, Bool, true, false, ◌||◌, eqb, List, [], ◌∷◌, ◌++◌, length, take, sym, refl, ap, ◌∙◌, ⊎_elim, arith}
+use Rattle.std.proofs.Common.{◌≡◌, ℕ, ◌+◌, ◌<◌, ◌≤◌, ◌||◌, eqb, List, [], ◌∷◌, ◌++◌, length, take, sym, refl, ap, ◌∙◌, ⊎_elim, arith}
 use Rattle.std.proofs.lemmas.List.{take_more}
-use Rattle.std.proofs.lemmas.Bool.{or_parts, cases_Bool}
+use Rattle.std.proofs.lemmas.Bool.{cases_Bool}
 use Rattle.std.proofs.lemmas.Bool.Decides.{nat_tests}
 use Rattle.drawing.specs.Marked.{is_marked}
 use Rattle.drawing.specs.declared.marks.Marks.{Marks}
 use Rattle.book.specs.declared.counts.Counts.{Counts}
 use Rattle.book.specs.Layout.{word, words_in, order_at, after}
-use Rattle.book.specs.Bad.{among, bad_border}
+use Rattle.book.specs.Bad.{among}
 use Rattle.book.specs.Found.{MarkTheBorders}
 use Rattle.book.specs.Ready.{Ready}
 use Rattle.book.proofs.SectionWords.{section_length, section_word}

@@ -1,5 +1,5 @@
 -- What the functions that look for the first bad word answer. Assumes nothing.
-use Rattle.std.specs.Prelude.{◌≡◌, ℕ, ◌+◌, ◌*◌, ◌<◌, ◌≤◌, Bool, true, false, cond, List, [], ◌∷◌, length, Some, None, Option, slice_index_or}
+use Rattle.std.specs.Prelude.{◌≡◌, ℕ, ◌+◌, ◌*◌, ◌<◌, ◌≤◌, Bool, true, false, cond, List, [], ◌∷◌, Some, None, Option}
 use Rattle.drawing.specs.Marked.{is_marked}
 use Rattle.drawing.specs.declared.marks.Marks.{Marks}
 use Rattle.book.specs.declared.counts.Counts.{Counts}

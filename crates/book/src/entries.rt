@@ -1,64 +1,30 @@
 // The first bad word of the entries of a book.
-ghost use Rattle.std.specs.Prelude.{◌≡◌, ◌+◌, ◌-◌, ◌*◌, ◌<◌, ◌≤◌};
-ghost use Rattle.book.specs.Bad.{offset, entries_at, entry_count, right_name, bad_value, bad_entry, Finds};
+ghost use Rattle.std.specs.Prelude.{◌≡◌, ◌-◌, ◌*◌, ◌≤◌};
+ghost use Rattle.book.specs.Bad.{offset, entries_at, bad_entry, Finds};
 ghost use Rattle.book.specs.Found.{FirstInPart};
-ghost use Rattle.book.specs.InRow.{bad_name_in, bad_word_in};
 ghost use Rattle.book.specs.Ready.{GoodOffsets};
 
 use super::laid::Laid;
 use super::names::Names;
+use super::row::Row;
 use measure::Measure;
 
-// Whether the value of an entry is no value of the measure, or none.
-fn is_bad_value<M: Measure>(value: u64) -> bool
-    ensures { result ≡ bad_value M.Measure.scale value }
-{
-    !M::is_value(value) || value == M::NONE
-}
-
 impl<'a> Laid<'a> {
-    // Whether a hub's name is right in the row of a junction.
-    fn is_right_name(&self, names: Names, junction: u64, name: u64) -> bool
-        requires { (1 ≤ junction) × (junction ≤ self.now.counts.junctions) }
-        ensures { result ≡ right_name self.now.words.now self.now.counts names junction name }
+    // The row of a junction.
+    fn row(&self, names: Names, junction: u64) -> Row<'a>
+        requires some { (1 ≤ junction) × (junction ≤ self.now.counts.junctions) }
+        requires good { GoodOffsets self.now.words.now self.now.counts names }
+        ensures words { result.laid.words.now ≡ self.now.words.now }
+        ensures counts { result.laid.counts ≡ self.now.counts }
+        ensures names { result.names ≡ names }
+        ensures junction { result.junction ≡ junction }
     {
-        match names {
-            Names::Ranks => name < self.counts.borders,
-            Names::Hubs => {
-                1 <= name
-                    && name <= self.counts.junctions
-                    && self.district(name - 1) == self.district(junction - 1)
-            }
-        }
-    }
-
-    // Whether the name in entry number `number` is bad, in the row of a junction that begins with entry number `from`.
-    fn is_bad_name(&self, names: Names, junction: u64, from: u64, number: u64) -> bool
-        requires { (1 ≤ junction) × (junction ≤ self.now.counts.junctions) × (from ≤ number) × (number < entry_count self.now.counts names) }
-        ensures { result ≡ bad_name_in self.now.words.now self.now.counts names junction from number }
-    {
-        let name = self.entry_word(names, 2 * number);
-        !self.is_right_name(names, junction, name)
-            || (number != from && name <= self.entry_word(names, 2 * (number - 1)))
-    }
-
-    // The first bad word of entry number `number`, in the row of a junction that begins with entry number `from`.
-    fn bad_in_entry<M: Measure>(
-        &self,
-        names: Names,
-        junction: u64,
-        from: u64,
-        number: u64,
-    ) -> Option<u64>
-        requires { (1 ≤ junction) × (junction ≤ self.now.counts.junctions) × (from ≤ number) × (number < entry_count self.now.counts names) }
-        ensures { Finds (bad_word_in M.Measure.scale self.now.words.now self.now.counts names junction from) (2 * number) (2 * (number + 1)) result }
-    {
-        if self.is_bad_name(names, junction, from, number) {
-            Some(2 * number)
-        } else if is_bad_value::<M>(self.entry_word(names, 2 * number + 1)) {
-            Some(2 * number + 1)
-        } else {
-            None
+        Row {
+            laid: *self,
+            names,
+            junction,
+            from: self.offset(names, junction - 1),
+            to: self.offset(names, junction),
         }
     }
 
@@ -68,9 +34,7 @@ impl<'a> Laid<'a> {
         requires good { GoodOffsets self.now.words.now self.now.counts names }
         ensures { Finds (bad_entry M.Measure.scale self.now.words.now self.now.counts names) (2 * offset self.now.words.now self.now.counts names (junction - 1)) (2 * offset self.now.words.now self.now.counts names junction) result }
     {
-        let from = self.offset(names, junction - 1);
-        let to = self.offset(names, junction);
-        (from..to).find_map(|number| self.bad_in_entry::<M>(names, junction, from, number))
+        self.row(names, junction).first_bad::<M>()
     }
 
     // The place of the first bad word of the border entries or of the district entries.

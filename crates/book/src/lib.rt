@@ -10,6 +10,7 @@ mod meeting;
 mod names;
 mod opened;
 mod opening;
+mod row;
 mod rows;
 mod sections;
 mod span;

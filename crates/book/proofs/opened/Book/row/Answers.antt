@@ -1,5 +1,5 @@
-use Rattle.std.proofs.Common.{◌≡◌, subst}
-use Rattle.book.specs.Parts.{IsWord, IsStretch}
+use Rattle.std.proofs.Common.{subst}
+use Rattle.book.specs.Parts.{IsStretch}
 use Rattle.book.proofs.RowAt.{hands_out}
 use Rattle.book.proofs.opened.Book.row.Goals as goal
 
