@@ -9,7 +9,7 @@ use super::names::Names;
 use super::{Book, Span};
 use drawing::Refusal;
 
-// The part of the words that the span says, where they are all there.
+// The part of the words that the span says, where they are all there; of a book that was opened they are.
 fn part(words: &[u64], span: Span) -> Result<&[u64], Refusal>
     ensures { IsPart words.now span result }
 {
@@ -31,7 +31,8 @@ impl Span {
 }
 
 impl<'a> Book<'a> {
-    // Word number j of a section.
+    // Word number j of a section. It is 0, and no `None`, where there is none: a book has no invariant of its own, by a rule of the
+    // project, and of a book that was opened the word is there.
     pub(crate) fn word_in(&self, section: Span, j: u64) -> u64
         ensures { IsWord self.now.words.now section j result }
     {
@@ -60,7 +61,8 @@ impl<'a> Book<'a> {
         part(self.words, self.sections.entries(names).stretch(begin, end))
     }
 
-    // The border row of a junction: its hubs are ranks in the border order.
+    // The border row of a junction: its hubs are ranks in the border order. (One line on `row`, as the next: each kind of row has a
+    // call of its own, and `Names` stays within the crate.)
     pub fn border_row(&self, junction: u64) -> Result<&'a [u64], Refusal>
         ensures { (s : Scale) → HandsOutTheRow s Ranks self.now junction result }
     {

@@ -80,7 +80,7 @@ impl Rest {
         Ok(marks.count(self.junctions))
     }
 
-    // Writes the borders to the front of a list, ascending, and answers how many there are.
+    // Writes the borders to the front of a list, ascending, and answers how many there are. (The list is lent: no heap here.)
     pub fn list_borders(
         &self,
         junctions: &[Junction],

@@ -106,7 +106,7 @@ impl Rest {
         Ok(())
     }
 
-    // Closes a road; a closed one stays closed.
+    // Closes a road; a closed one stays closed. (The rules name this call and the next; both are one line on `mark`.)
     pub fn close(&self, roads: &mut [Road], road: u64) -> Result<(), Refusal>
         ensures { ChangesOneMark self.now roads.old road Closed result roads.new }
     {
@@ -156,7 +156,8 @@ impl Rest {
         }
     }
 
-    // Refuses a junction table that is too short for the drawing.
+    // Refuses a junction table that is too short for the drawing. (One line on `used`, as the next: of one call for both tables a
+    // caller would have to say which count it means.)
     pub fn check_junctions(&self, junctions: &[Junction]) -> Result<(), Refusal>
         ensures { result ≡ verdict (size_check self.now.junctions (length junctions.now) ∷ []) }
     {

@@ -2,7 +2,8 @@
 ghost use Rattle.std.specs.Prelude.{◌≡◌, ◌≤◌};
 
 // A drawing at rest: the tag of its measure, and how many junctions, districts and roads it has. Its junctions and roads
-// stand in tables that each call is lent. It moves, and is never copied.
+// stand in tables that each call is lent: a rule of the project, so a count here has its table elsewhere. It moves, and is never
+// copied.
 #[derive(Drop)]
 pub struct Rest {
     pub(crate) tag: u64,

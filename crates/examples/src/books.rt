@@ -50,6 +50,7 @@ fn changed_at(rt: &impl Abort, words: &mut [u64], place: usize) -> Result<(), Fa
     Ok(())
 }
 
+// Each word by its place, since it is changed and put back among the others.
 fn changed_everywhere(rt: &impl Abort, words: &mut [u64]) -> Result<(), Fail> {
     for place in 0..words.len() {
         changed_at(rt, words, place)?;

@@ -197,17 +197,9 @@ fn as_many_junctions_as_there_may_be(rt: HostRuntime) -> Result<(), Fail> {
         Err(_) => return Err(Fail::new("refused")),
     }
     assert!(rt; roads[0].second == 4_096 && roads[0].value == 5);
-    match junctions.get(4_095) {
-        Some(junction) => assert_eq!(rt; junction.district, 3),
-        None => return Err(Fail::new("no junction")),
-    }
-    match junctions.get(4_096) {
-        Some(junction) => {
-            assert_eq!(rt; junction.district, 77);
-            Ok(())
-        },
-        None => Err(Fail::new("no entry to spare")),
-    }
+    assert_eq!(rt; junctions.get(4_095).map(|j| j.district), Some(3));
+    assert_eq!(rt; junctions.get(4_096).map(|j| j.district), Some(77));
+    Ok(())
 }
 
 #[test]

@@ -32,7 +32,8 @@ pub trait Measure {
     fn is_value(word: u64) -> bool
         ensures { result ≡ scale.value word };
 
-    // Whether a road may have this value.
+    // Whether a road may have this value. (Each measure writes this and `is_value` itself, though both here go up to a limit: a limit
+    // in the trait would bind every measure to one.)
     fn is_lawful(word: u64) -> bool
         ensures { result ≡ scale.lawful word };
 

@@ -1,4 +1,6 @@
 // Drawing a text that has no fault.
+ghost use Rattle.std.specs.Prelude.{◌≡◌};
+ghost use Rattle.roadtext.specs.Read.{room_of};
 ghost use Rattle.roadtext.specs.Drawn.{DrawsEvent, DrawsText};
 
 use super::parts::Room;
@@ -26,20 +28,18 @@ fn draw_event<M: Measure>(
     }
 }
 
-// Draws a text without fault, with so many junctions.
+// Draws a text without fault, with so many junctions, in tables with this room. (Two tables, as every call of a drawing is lent
+// them.)
 pub(crate) fn draw<M: Measure>(
     text: &[u8],
+    room: Room,
     count: u64,
     junctions: &mut [Junction],
     roads: &mut [Road],
 ) -> Result<Rest, Refusal>
+    requires { room ≡ room_of junctions.old roads.old }
     ensures { DrawsText M.Measure.scale text.now count junctions.old roads.old result junctions.new roads.new }
 {
-    // written out here and in `read`: a function for it leaves that proof open (tried)
-    let room = Room {
-        places: junctions.len() as u64,
-        records: roads.len() as u64,
-    };
     let mut drawing = Rest::start::<M>(count, MOST_DISTRICTS, junctions)?;
     for event in Walk::<M>::over(text, room) {
         let Ok(event) = event else {

@@ -26,7 +26,7 @@ pub fn read<M: Measure>(
     };
     let count = check::<M>(text, room)?;
     let asks = asks_in::<M>(heap, text, room)?;
-    let Ok(drawing) = draw::<M>(text, count, junctions, roads) else {
+    let Ok(drawing) = draw::<M>(text, room, count, junctions, roads) else {
         // nothing is refused in a text without fault
         unreachable!()
     };

@@ -1,7 +1,7 @@
-use Rattle.std.proofs.Common.{sym, subst, rules}
+use Rattle.std.proofs.Common.{sym, ap, ◌∙◌, subst, rules}
 use Rattle.roadtext.specs.Reading.{nothing_read}
 use Rattle.roadtext.specs.Read.{room_of}
-use Rattle.roadtext.specs.Steps.{stepped}
+use Rattle.roadtext.specs.Steps.{progress_of, stepped}
 use Rattle.roadtext.proofs.Added.{event_far}
 use Rattle.roadtext.proofs.Midway.{Midway, midway_start, midway_on}
 use Rattle.roadtext.proofs.Whole.{started_far, line_accepted, all_drawn}
@@ -15,7 +15,7 @@ loop-event-init g c =
       tt,
       nothing_read,
       subst (λ q. Midway g.M.Measure.scale room c.args.text.now q nothing_read) (sym c.into_iter-event-iterator.ensures.into_iter_gives)
-          (midway_start g.M.Measure.scale room c.args.text.now c.over-event-items.result w.progress w.number w.rest),
+          (midway_start g.M.Measure.scale room c.args.text.now c.over-event-items.result (w.progress ∙ ap (λ r. progress_of r nothing_read) c.requires) w.number w.rest),
       started_far g.M.Measure.scale c.args.count c.args.junctions.now c.in_ok-drawing.drawing c.start.new.junctions c.args.roads.now c.in_ok-drawing.ensures,
     )
 
