@@ -9,6 +9,16 @@ use super::walk::Walk;
 use drawing::{Junction, MOST_DISTRICTS, Refusal, Rest, Road};
 use measure::Measure;
 
+// The room that there is in two tables.
+pub(crate) fn room_in(junctions: &[Junction], roads: &[Road]) -> Room
+    ensures { result ≡ room_of junctions.now roads.now }
+{
+    Room {
+        places: junctions.len() as u64,
+        records: roads.len() as u64,
+    }
+}
+
 // Draws what one line adds.
 fn draw_event<M: Measure>(
     drawing: &mut Rest,
@@ -28,18 +38,16 @@ fn draw_event<M: Measure>(
     }
 }
 
-// Draws a text without fault, with so many junctions, in tables with this room. (Two tables, as every call of a drawing is lent
-// them.)
+// Draws a text without fault, with so many junctions. (Two tables, as every call of a drawing is lent them.)
 pub(crate) fn draw<M: Measure>(
     text: &[u8],
-    room: Room,
     count: u64,
     junctions: &mut [Junction],
     roads: &mut [Road],
 ) -> Result<Rest, Refusal>
-    requires { room ≡ room_of junctions.old roads.old }
     ensures { DrawsText M.Measure.scale text.now count junctions.old roads.old result junctions.new roads.new }
 {
+    let room = room_in(junctions, roads);
     let mut drawing = Rest::start::<M>(count, MOST_DISTRICTS, junctions)?;
     for event in Walk::<M>::over(text, room) {
         let Ok(event) = event else {

@@ -3,9 +3,8 @@ ghost use Rattle.roadtext.specs.Read.{ReadsTheText};
 
 use super::asks::asks_in;
 use super::checking::check;
-use super::draw::draw;
+use super::draw::{draw, room_in};
 use super::outcome::{Reading, Unread};
-use super::parts::Room;
 use drawing::{Junction, Road};
 use measure::Measure;
 use std::alloc::Global;
@@ -20,13 +19,10 @@ pub fn read<M: Measure>(
 ) -> Result<Reading, Unread>
     ensures { ReadsTheText M.Measure.scale text.now junctions.old roads.old result junctions.new roads.new }
 {
-    let room = Room {
-        places: junctions.len() as u64,
-        records: roads.len() as u64,
-    };
+    let room = room_in(junctions, roads);
     let count = check::<M>(text, room)?;
     let asks = asks_in::<M>(heap, text, room)?;
-    let Ok(drawing) = draw::<M>(text, room, count, junctions, roads) else {
+    let Ok(drawing) = draw::<M>(text, count, junctions, roads) else {
         // nothing is refused in a text without fault
         unreachable!()
     };
