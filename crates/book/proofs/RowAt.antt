@@ -18,6 +18,7 @@ use Rattle.book.specs.declared.opened.Book.{Book}
 use Rattle.book.specs.declared.span.Span.{Span}
 use Rattle.book.proofs.IsBook.{ready, good_offsets}
 use Rattle.book.proofs.RowsOfEntries.{next_offset, offset_within}
+use Rattle.book.proofs.Telling.{shown}
 use Rattle.book.proofs.SectionWords.{offsets_size, entries_size}
 use Rattle.drawing.proofs.Within.{is_within}
 
@@ -68,13 +69,13 @@ module _ (s : Scale) (names : Names) (v : ℕ) (r : Result (Bor (List ℕ)) Refu
       rw (is_within 1 (word ws 2) v low high) (part_is_there ws (row_words ws names v) p r there same h)
 
   pub hands_out :
-      (ws : List ℕ) (b : Book) → IsBook s ws → Shows ws b → 1 ≤ v → v ≤ b.counts.junctions
-      → IsWord b.words.now (offsets_of b.sections names) (v - 1) begin → IsWord b.words.now (offsets_of b.sections names) v end
-      → IsStretch (entries_of b.sections names) begin end p → IsPart b.words.now p r → HandedOut ws
+      (ws : List ℕ) (b : Book) → IsBook s ws → Shows ws b → 1 ≤ v → v ≤ b.layout.counts.junctions
+      → IsWord b.words.now (offsets_of b.layout.sections names) (v - 1) begin → IsWord b.words.now (offsets_of b.layout.sections names) v end
+      → IsStretch (entries_of b.layout.sections names) begin end p → IsPart b.words.now p r → HandedOut ws
   hands_out ws b book shows low high at_begin at_end stretches h =
-      let o = offsets_of b.sections names in
-      of_words ws o (entries_of b.sections names) book low (subst (λ c. v ≤ c.junctions) shows.counts high)
-      (spans_offsets (counts_of ws) b.sections names shows.sections) (spans_entries (counts_of ws) b.sections names shows.sections)
+      let o = offsets_of b.layout.sections names in
+      of_words ws o (entries_of b.layout.sections names) book low (subst (λ c. v ≤ c.junctions) shows.counts high)
+      (spans_offsets (counts_of ws) b.layout.sections names (shown ws b shows)) (spans_entries (counts_of ws) b.layout.sections names (shown ws b shows))
       (subst (λ w. IsWord w o (v - 1) begin) shows.words at_begin)
       (subst (λ w. IsWord w o v end) shows.words at_end)
       stretches

@@ -11,7 +11,6 @@ use Rattle.std.specs.List.{AllByRecursion}
 use Rattle.network.specs.Labels.{Entry, meet, Ascends}
 use Rattle.network.specs.Theorems.{Proper}
 use Rattle.book.specs.Layout.{word, counts_of, Section, section, words_in, entries}
-use Rattle.book.specs.Sections.{HasSections}
 use Rattle.book.specs.Words.{entry_words}
 use Rattle.book.specs.Bad.{entries_at, offset, FirstBad, NoneBad}
 use Rattle.book.specs.declared.names.Names.{Names}
@@ -30,11 +29,10 @@ pub record IsBook (s : Scale) (ws : List ℕ) : Type 0 where
   pub checked : verdict (open_checks s ws) ≡ Ok tt
   pub none_bad : NoneBad s ws
 
--- the opened book b holds the words ws and their counts, and knows where the sections lie that these give
+-- the opened book b holds the words ws, and their counts
 pub record Shows (ws : List ℕ) (b : Book) : Type 0 where
   pub words : b.words.now ≡ ws
-  pub counts : b.counts ≡ counts_of ws
-  pub sections : HasSections (counts_of ws) b.sections
+  pub counts : b.layout.counts ≡ counts_of ws
 
 -- What open answers for the words ws: a book that shows them, where they are one; otherwise the refusal of the first check that
 -- fails, and if none does, refusal 12 with the place of the first bad word.

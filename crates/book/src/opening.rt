@@ -201,18 +201,14 @@ pub fn open<M: Measure>(words: &[u64]) -> Result<Book<'_>, Refusal>
     if let Some(place) = counts.first_bad() {
         return Err(bad_word(place));
     }
-    let sections = counts.sections();
+    let layout = counts.layout();
     let laid = Laid {
         words,
         counts,
-        sections,
+        sections: layout.sections,
     };
     if let Some(place) = laid.first_bad::<M>() {
         return Err(bad_word(place));
     }
-    Ok(Book {
-        words,
-        counts,
-        sections,
-    })
+    Ok(Book { words, layout })
 }

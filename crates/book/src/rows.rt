@@ -44,21 +44,24 @@ impl<'a> Book<'a> {
 
     // Offset number j of the rows with these names.
     fn offset(&self, names: Names, j: u64) -> u64
-        ensures { IsWord self.now.words.now (offsets_of self.now.sections names) j result }
+        ensures { IsWord self.now.words.now (offsets_of self.now.layout.sections names) j result }
     {
-        self.word_in(self.sections.offsets(names), j)
+        self.word_in(self.layout.sections.offsets(names), j)
     }
 
     // The row of a junction, among the rows with these names.
     fn row(&self, names: Names, junction: u64) -> Result<&'a [u64], Refusal>
         ensures { (s : Scale) → HandsOutTheRow s names self.now junction result }
     {
-        if junction < 1 || junction > self.counts.junctions {
+        if junction < 1 || junction > self.layout.counts.junctions {
             return Err(Refusal::NoJunction);
         }
         let begin = self.offset(names, junction - 1);
         let end = self.offset(names, junction);
-        part(self.words, self.sections.entries(names).stretch(begin, end))
+        part(
+            self.words,
+            self.layout.sections.entries(names).stretch(begin, end),
+        )
     }
 
     // The border row of a junction: its hubs are ranks in the border order. (One line on `row`, as the next: each kind of row has a

@@ -42,12 +42,20 @@ impl Sections {
     }
 }
 
+// The counts of a book, and the sections that they give.
+#[derive(Clone, Copy, PartialEq, Eq, Debug)]
+pub(crate) struct Layout {
+    pub(crate) counts: Counts,
+    pub(crate) sections: Sections,
+    ghost laid: { HasSections counts sections },
+}
+
 impl Counts {
-    // The sections that a book with these counts has.
-    pub(crate) fn sections(&self) -> Sections
-        requires few { Few self.now }
-        requires words { self.now.words ≡ total self.now }
-        ensures { HasSections self.now result }
+    // The layout of a book with these counts.
+    pub(crate) fn layout(self) -> Layout
+        requires few { Few self }
+        requires words { self.words ≡ total self }
+        ensures { result.counts ≡ self }
     {
         let places = Span::new(8, self.junctions, self.words);
         let order = places.next(self.borders);
@@ -55,13 +63,16 @@ impl Counts {
         let border_entries = border_offsets.next(2 * self.border_entries);
         let district_offsets = border_entries.next(self.junctions + 1);
         let district_entries = district_offsets.next(2 * self.district_entries);
-        Sections {
-            places,
-            order,
-            border_offsets,
-            border_entries,
-            district_offsets,
-            district_entries,
+        Layout {
+            counts: self,
+            sections: Sections {
+                places,
+                order,
+                border_offsets,
+                border_entries,
+                district_offsets,
+                district_entries,
+            },
         }
     }
 

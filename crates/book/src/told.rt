@@ -10,26 +10,26 @@ impl<'a> Book<'a> {
     pub fn counts(&self) -> Counts
         ensures { TellsTheCounts self.now result }
     {
-        self.counts
+        self.layout.counts
     }
 
     // The district of a junction.
     pub fn district(&self, junction: u64) -> Result<u64, Refusal>
         ensures { (s : Scale) → TellsTheDistrict s self.now junction result }
     {
-        if junction < 1 || junction > self.counts.junctions {
+        if junction < 1 || junction > self.layout.counts.junctions {
             return Err(Refusal::NoJunction);
         }
-        Ok(self.word_in(self.sections.places, junction - 1))
+        Ok(self.word_in(self.layout.sections.places, junction - 1))
     }
 
     // The junction that has this rank in the border order.
     pub fn border(&self, rank: u64) -> Option<u64>
         ensures { (s : Scale) → TellsTheBorder s self.now rank result }
     {
-        if rank >= self.counts.borders {
+        if rank >= self.layout.counts.borders {
             return None;
         }
-        Some(self.word_in(self.sections.order, rank))
+        Some(self.word_in(self.layout.sections.order, rank))
     }
 }

@@ -1,5 +1,4 @@
-use Rattle.std.proofs.Common.{Some, None, refl, subst}
-use Rattle.book.specs.Sections.{HasSections}
+use Rattle.std.proofs.Common.{Some, None, refl, ◌∙◌}
 use Rattle.book.proofs.BookParts.{book_by_counts, book_by_sections}
 use Rattle.book.proofs.BookOpens.{counted, refused_rightly, opened_rightly}
 use Rattle.book.proofs.opening.open.Goals as goal
@@ -29,6 +28,5 @@ returns g c =
     let counts = c.in_ok-counts.counts in (
       opened_rightly s ws counts c.in_ok-counts.ensures
           (book_by_sections s ws counts None c.in_default.ensures c.in_default-first_bad.ensures),
-      let same = counted s ws counts c.in_ok-counts.ensures in
-          record { words = refl; counts = same; sections = subst (λ k. HasSections k c.sections-sections.result) same c.sections-sections.ensures },
+      record { words = refl; counts = c.layout-layout.ensures ∙ counted s ws counts c.in_ok-counts.ensures },
     )
