@@ -32,7 +32,7 @@ fn outcome(rt: &impl Abort, heap: Global, text: &[u8]) -> Result<Option<Fault>, 
     }
 }
 
-// That a text is refused, with the fault of these numbers.
+// That a text is refused, with the fault of these numbers: those that users meet, so the cause is one too.
 fn faults(
     rt: &impl Abort,
     heap: Global,

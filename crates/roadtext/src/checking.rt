@@ -25,7 +25,7 @@ pub fn check<M: Measure>(text: &[u8], room: Room) -> Result<u64, Fault>
         });
     }
     let mut walk = Walk::<M>::over(text, room);
-    // no `for`: the proof does not know the walk after a loop over `&mut walk` (tried), and its end is needed
+    // No `for`: the proof does not know the walk after a loop over `&mut walk` (tried), and its end is needed.
     while let Some(event) = walk.next() {
         event?;
     }

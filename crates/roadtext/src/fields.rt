@@ -8,7 +8,8 @@ fn read_digits(text: &[u8]) -> Option<u64>
     requires { length text.now < 20 }
     ensures { result ≡ (if all_digits text.now then Some (digits_after 0 text.now) else None) }
 {
-    // a loop: in a `try_fold` nothing bounds the number so far (tried)
+    // By hand, since the library's `parse` takes a plus sign too; a loop, since in a `try_fold` nothing bounds the number so far
+    // (tried).
     let mut n: u64 = 0;
     for b in text {
         if !b.is_ascii_digit() {

@@ -142,7 +142,7 @@ impl Progress {
             (Some('a'), Stage::Arc(left)) => self.arc::<M>(line, left),
             (Some('a'), Stage::Twin(first, left)) => self.twin::<M>(line, first, left),
             (Some('d'), Stage::Tail) => self.move_line(line),
-            // two arms: in one for both stages the proof does not know which it is (tried)
+            // Two arms: in one for both stages the proof does not know which it is (tried).
             (Some('q'), Stage::Tail) => self.ask(line),
             (Some('q'), Stage::Asks) => self.ask(line),
             _ => Err(LineFault {
