@@ -15,14 +15,14 @@ struct Used<'a> {
 }
 
 impl<'a> Used<'a> {
-    // The district of a junction. It is 0, and no `None`, where there is none: the definition of a border reads it so.
+    // The district of a junction. It is 0, and no `None`, where there is none: the definition of a border reads it so,
+    // and two ends outside would differ from one in district 0.
     fn district_of(&self, v: u64) -> u64
         ensures { result ≡ slice_index (places_in self.now.junctions.now) (v - 1) }
     {
-        match self.junctions.get(v.saturating_sub(1) as usize) {
-            Some(junction) => junction.district,
-            None => 0,
-        }
+        self.junctions
+            .get(v.saturating_sub(1) as usize)
+            .map_or(0, |junction| junction.district)
     }
 
     // Whether a road is open and leads into another district.
@@ -72,7 +72,7 @@ impl Rest {
         Ok(self.used(junctions, roads)?.borders())
     }
 
-    // How many junctions are borders: ends of an open road into another district.
+    // How many junctions are borders: ends of an open road into another district. (The rules lend each table for itself.)
     pub fn count_borders(&self, junctions: &[Junction], roads: &[Road]) -> Result<u64, Refusal>
         ensures { CountsTheBorders self.now junctions.now roads.now result }
     {

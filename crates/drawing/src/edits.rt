@@ -18,26 +18,25 @@ pub const MOST_DISTRICTS: u64 = 64;
 
 pub const MOST_ROADS: u64 = 16_384;
 
+// The refusal, where a check fails.
+fn refuse_if(fails: bool, refusal: Refusal) -> Result<(), Refusal>
+    ensures { result ≡ verdict (refuse refusal fails ∷ []) }
+{
+    if fails { Err(refusal) } else { Ok(()) }
+}
+
 // Refuses a number that is not one of 1 to `most`.
 fn check_numbered(number: u64, most: u64, refusal: Refusal) -> Result<(), Refusal>
     ensures { result ≡ verdict (refuse refusal (not (within 1 most number)) ∷ []) }
 {
-    if (1..=most).contains(&number) {
-        Ok(())
-    } else {
-        Err(refusal)
-    }
+    refuse_if(!(1..=most).contains(&number), refusal)
 }
 
 // Refuses a value that no road may have.
 fn check_value<M: Measure>(value: u64) -> Result<(), Refusal>
     ensures { result ≡ verdict (value_check M.Measure.scale value ∷ []) }
 {
-    if M::is_lawful(value) {
-        Ok(())
-    } else {
-        Err(Refusal::NotLawful)
-    }
+    refuse_if(!M::is_lawful(value), Refusal::NotLawful)
 }
 
 // Refuses counts over their limits, and a junction table that is too short for them.
@@ -149,11 +148,7 @@ impl Rest {
     pub fn check_measure<M: Measure>(&self) -> Result<(), Refusal>
         ensures { result ≡ verdict (measure_check M.Measure.scale self.now ∷ []) }
     {
-        if self.tag == M::TAG {
-            Ok(())
-        } else {
-            Err(Refusal::OtherMeasure)
-        }
+        refuse_if(self.tag != M::TAG, Refusal::OtherMeasure)
     }
 
     // Refuses a junction table that is too short for the drawing. (One line on `used`, as the next: of one call for both tables a
@@ -186,24 +181,19 @@ impl Rest {
         self.check_measure::<M>()?;
         self.check_roads(roads)?;
         self.check_record::<M>(first, second, value)?;
-        if self.roads >= MOST_ROADS || self.roads >= roads.len() as u64 {
-            return Err(Refusal::RoadsFull);
-        }
-        Ok(())
+        let full = self.roads >= MOST_ROADS || self.roads >= roads.len() as u64;
+        refuse_if(full, Refusal::RoadsFull)
     }
 
     // Refuses a number that no district of the drawing has.
     pub fn check_district(&self, district: u64) -> Result<(), Refusal>
         ensures { result ≡ verdict (district_check self.now district ∷ []) }
     {
-        if self.districts <= district {
-            return Err(Refusal::NoDistrict);
-        }
-        Ok(())
+        refuse_if(self.districts <= district, Refusal::NoDistrict)
     }
 
-    // Refuses ends that are no two junctions of the drawing, and a value that a road may not have. (Three numbers, as `add` has
-    // them: a `Road` in their place would ask for a mark too, which nothing here reads.)
+    // Refuses ends that are no two junctions of the drawing, and a value that a road may not have. (Three numbers, as the
+    // rules give them to `add`.)
     pub fn check_record<M: Measure>(
         &self,
         first: u64,
@@ -214,9 +204,7 @@ impl Rest {
     {
         check_numbered(first, self.junctions, Refusal::NoJunction)?;
         check_numbered(second, self.junctions, Refusal::NoJunction)?;
-        if first == second {
-            return Err(Refusal::EndsAlike);
-        }
+        refuse_if(first == second, Refusal::EndsAlike)?;
         check_value::<M>(value)
     }
 }

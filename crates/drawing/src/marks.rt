@@ -6,7 +6,7 @@ ghost use Rattle.std.specs.List.{range_with_len};
 use super::MOST_JUNCTIONS;
 
 // How many numbers can be marked: 0, and each number that a junction may have.
-const MARKS: usize = 4_097;
+const MARKS: usize = MOST_JUNCTIONS as usize + 1;
 
 // Which of the numbers 0 to 4,096 are marked. They lie where they are used, so that marking never wants memory.
 #[derive(Drop)]
