@@ -61,5 +61,8 @@ module _ (s : Scale) (ws : List ℕ) (c : Counts) where
       i (in_counts c (Some i) is)
 
   pub book_by_sections :
-      (r : Option ℕ) → None ≡ first_true 0 (count_faults c) → FirstIn (place_parts ws c ++ (ranks ++ hubs)) r → FirstIn (parts s ws c) r
-  book_by_sections r is h = first_in_rest (count_parts c) (place_parts ws c ++ (ranks ++ hubs)) r (in_counts c None is) h
+      (r : Option ℕ) → None ≡ first_true 0 (count_faults c) → (k : Counts) → k ≡ c
+      → FirstIn (place_parts ws k ++ (row_parts s ws k Ranks ++ row_parts s ws k Hubs)) r → FirstIn (parts s ws c) r
+  book_by_sections r is k same h =
+      first_in_rest (count_parts c) (place_parts ws c ++ (ranks ++ hubs)) r (in_counts c None is)
+      (subst (λ d. FirstIn (place_parts ws d ++ (row_parts s ws d Ranks ++ row_parts s ws d Hubs)) r) same h)

@@ -7,7 +7,7 @@ use Rattle.network.proofs.Lists.{all_in}
 use Rattle.network.proofs.Meeting.{Meets, meets}
 use Rattle.book.specs.Layout.{word, entries}
 use Rattle.book.specs.Opened.{as_pair, as_pair_by_rank}
-use Rattle.book.specs.Told.{IsBorderRow, border_order, border_of, with_border_lem}
+use Rattle.book.specs.Told.{IsBorderRow, border_order, border_of, with_border}
 use Rattle.book.proofs.Merge.{values}
 
 -- the border of a rank that there is
@@ -38,6 +38,6 @@ module _ (s : Scale) (laws : Laws s) (ws p q : List ℕ) (left : IsBorderRow s w
 
   pub gives_the_border :
       (border : Option ℕ) → Some (x, rank) ≡ as_pair (meet s (entries p) (entries q)) → border ≡ border_of ws rank
-      → with_border_lem x border ≡ as_pair_by_rank (border_order ws) (meet s (entries p) (entries q))
+      → with_border x border ≡ as_pair_by_rank (border_order ws) (meet s (entries p) (entries q))
   gives_the_border border e b =
-      ap (with_border_lem x) (b ∙ border_of_rank ws rank (found_below e)) ∙ by_its_rank (meet s (entries p) (entries q)) e
+      ap (with_border x) (b ∙ border_of_rank ws rank (found_below e)) ∙ by_its_rank (meet s (entries p) (entries q)) e

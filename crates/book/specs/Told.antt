@@ -38,9 +38,9 @@ abbrev pub TellsTheBorder : Scale → Book → ℕ → Option ℕ → Type 0
 TellsTheBorder s b rank r = (ws : List ℕ) → IsBook s ws → Shows ws b → r ≡ border_of ws rank
 
 -- a value and the border where it is reached, if there is one
-abbrev pub with_border_lem : ℕ → Option ℕ → Option (ℕ × ℕ)
-with_border_lem x None = None
-with_border_lem x (Some y) = Some (x, y)
+abbrev pub with_border : ℕ → Option ℕ → Option (ℕ × ℕ)
+with_border x None = None
+with_border x (Some y) = Some (x, y)
 
 -- the words of a row whose names are ranks in the book's border order
 pub record IsBorderRow (s : Scale) (ws p : List ℕ) : Type 0 where

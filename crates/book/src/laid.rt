@@ -3,21 +3,17 @@ ghost use Rattle.std.specs.Prelude.{◌≡◌, ◌+◌, ◌*◌, ◌<◌, ◌≤
 ghost use Rattle.book.specs.Bad.{entry_count, entry_word, offset};
 ghost use Rattle.book.specs.Layout.{word, places_at, order_at};
 ghost use Rattle.book.specs.Ready.{Ready};
-ghost use Rattle.book.specs.Sections.{HasSections};
 
+use super::Span;
 use super::names::Names;
-use super::sections::Sections;
-use super::{Counts, Span};
+use super::sections::Layout;
 
-// Words, the counts that they begin with, none of them bad, and the sections that these give: so the words of all sections are
-// there.
+// Words, and the layout that the counts give with which they begin. No count is bad: so the words of all sections are there.
 #[derive(Clone, Copy, PartialEq, Eq, Debug)]
 pub(crate) struct Laid<'a> {
     pub(crate) words: &'a [u64],
-    pub(crate) counts: Counts,
-    pub(crate) sections: Sections,
-    ghost ready: { Ready words.now counts },
-    ghost laid: { HasSections counts sections },
+    pub(crate) layout: Layout,
+    ghost ready: { Ready words.now layout.counts },
 }
 
 impl<'a> Laid<'a> {
@@ -31,33 +27,33 @@ impl<'a> Laid<'a> {
 
     // The district of junction j + 1.
     pub(crate) fn district(&self, j: u64) -> u64
-        requires { j < self.now.counts.junctions }
-        ensures { result ≡ word self.now.words.now ((places_at self.now.counts).first + j) }
+        requires { j < self.now.layout.counts.junctions }
+        ensures { result ≡ word self.now.words.now ((places_at self.now.layout.counts).first + j) }
     {
-        self.word_at(self.sections.places, j)
+        self.word_at(self.layout.sections.places, j)
     }
 
     // The border of rank j.
     pub(crate) fn border(&self, j: u64) -> u64
-        requires { j < self.now.counts.borders }
-        ensures { result ≡ word self.now.words.now ((order_at self.now.counts).first + j) }
+        requires { j < self.now.layout.counts.borders }
+        ensures { result ≡ word self.now.words.now ((order_at self.now.layout.counts).first + j) }
     {
-        self.word_at(self.sections.order, j)
+        self.word_at(self.layout.sections.order, j)
     }
 
     // Offset number j of the rows that name their hubs so.
     pub(crate) fn offset(&self, names: Names, j: u64) -> u64
-        requires { j ≤ self.now.counts.junctions }
-        ensures { result ≡ offset self.now.words.now self.now.counts names j }
+        requires { j ≤ self.now.layout.counts.junctions }
+        ensures { result ≡ offset self.now.words.now self.now.layout.counts names j }
     {
-        self.word_at(self.sections.offsets(names), j)
+        self.word_at(self.layout.sections.offsets(names), j)
     }
 
     // Word number j of the entries of those rows.
     pub(crate) fn entry_word(&self, names: Names, j: u64) -> u64
-        requires { j < 2 * entry_count self.now.counts names }
-        ensures { result ≡ entry_word self.now.words.now self.now.counts names j }
+        requires { j < 2 * entry_count self.now.layout.counts names }
+        ensures { result ≡ entry_word self.now.words.now self.now.layout.counts names j }
     {
-        self.word_at(self.sections.entries(names), j)
+        self.word_at(self.layout.sections.entries(names), j)
     }
 }

@@ -1,19 +1,11 @@
 // Two rows of an opened book joined.
 ghost use Rattle.std.specs.Prelude.{◌≡◌, ℕ, List};
 ghost use Rattle.book.specs.Opened.{IsBook, JoinsTwoRows};
-ghost use Rattle.book.specs.Told.{with_border_lem, JoinsBorderRows, RowsAreRows};
+ghost use Rattle.book.specs.Told.{JoinsBorderRows, RowsAreRows};
 
 use super::Book;
 use super::joining::join_rows;
 use measure::Measure;
-
-// A value and the border where it is reached, if there is one.
-fn with_border(value: u64, border: Option<u64>) -> Option<(u64, u64)>
-    ensures { result ≡ with_border_lem value border }
-{
-    let border = border?;
-    Some((value, border))
-}
 
 impl<'a> Book<'a> {
     // Two border rows joined: the best value that they give, and the first border that gives it.
@@ -21,7 +13,7 @@ impl<'a> Book<'a> {
         ensures { JoinsBorderRows M.Measure.scale self.now first.now second.now result }
     {
         let (value, rank) = join_rows::<M>(first, second)?;
-        with_border(value, self.border(rank))
+        self.border(rank).map(|border| (value, border))
     }
 
     // Two district rows joined: the best value that they give, and the first junction that gives it.

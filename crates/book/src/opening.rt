@@ -88,39 +88,39 @@ impl Counts {
 impl<'a> Laid<'a> {
     // Whether the district of junction j + 1 is bad.
     fn is_bad_district(&self, j: u64) -> bool
-        requires { j < self.now.counts.junctions }
-        ensures { result ≡ bad_district self.now.words.now self.now.counts j }
+        requires { j < self.now.layout.counts.junctions }
+        ensures { result ≡ bad_district self.now.words.now self.now.layout.counts j }
     {
-        self.district(j) >= self.counts.districts
+        self.district(j) >= self.layout.counts.districts
     }
 
     // The place of the first bad district.
     fn bad_district(&self) -> Option<u64>
-        ensures { FirstInPart (places_at self.now.counts) (bad_district self.now.words.now self.now.counts) result }
+        ensures { FirstInPart (places_at self.now.layout.counts) (bad_district self.now.words.now self.now.layout.counts) result }
     {
-        let places = self.sections.places;
-        (0..self.counts.junctions)
+        let places = self.layout.sections.places;
+        (0..self.layout.counts.junctions)
             .find(|&j| self.is_bad_district(j))
             .map(|j| places.place(j))
     }
 
     // Whether the border of rank j is bad, where the borders before it are marked.
     fn is_bad_border(&self, seen: &Marks, j: u64) -> bool
-        requires { (j < self.now.counts.borders) × (MarkTheBorders seen.now (take j (words_in (order_at self.now.counts) self.now.words.now))) }
-        ensures { result ≡ bad_border self.now.words.now self.now.counts j }
+        requires { (j < self.now.layout.counts.borders) × (MarkTheBorders seen.now (take j (words_in (order_at self.now.layout.counts) self.now.words.now))) }
+        ensures { result ≡ bad_border self.now.words.now self.now.layout.counts j }
     {
         let border = self.border(j);
-        border < 1 || border > self.counts.junctions || seen.has(border)
+        border < 1 || border > self.layout.counts.junctions || seen.has(border)
     }
 
     // The place of the first bad border.
     fn bad_border(&self) -> Option<u64>
-        ensures { FirstInPart (order_at self.now.counts) (bad_border self.now.words.now self.now.counts) result }
+        ensures { FirstInPart (order_at self.now.layout.counts) (bad_border self.now.words.now self.now.layout.counts) result }
     {
-        let order = self.sections.order;
+        let order = self.layout.sections.order;
         let mut seen = Marks::new();
         // A loop: each round marks a border too, and a `find` whose closure does that would be no plainer.
-        for j in 0..self.counts.borders {
+        for j in 0..self.layout.counts.borders {
             if self.is_bad_border(&seen, j) {
                 return Some(order.place(j));
             }
@@ -131,7 +131,7 @@ impl<'a> Laid<'a> {
 
     // The place of the first bad word of the districts and the border order.
     fn bad_place(&self) -> Option<u64>
-        ensures { FirstIn (place_parts self.now.words.now self.now.counts) result }
+        ensures { FirstIn (place_parts self.now.words.now self.now.layout.counts) result }
     {
         // A match and no `or_else`: tried, bare and with a clause of its own, and no proof learns what the closure answered.
         match self.bad_district() {
@@ -142,8 +142,8 @@ impl<'a> Laid<'a> {
 
     // Whether offset number j is bad.
     fn is_bad_offset(&self, names: Names, j: u64) -> bool
-        requires { j ≤ self.now.counts.junctions }
-        ensures { result ≡ bad_offset self.now.words.now self.now.counts names j }
+        requires { j ≤ self.now.layout.counts.junctions }
+        ensures { result ≡ bad_offset self.now.words.now self.now.layout.counts names j }
     {
         let offset = self.offset(names, j);
         let falls = if j == 0 {
@@ -151,23 +151,23 @@ impl<'a> Laid<'a> {
         } else {
             offset < self.offset(names, j - 1)
         };
-        let entries = self.counts.entry_count(names);
-        falls || offset > entries || (j == self.counts.junctions && offset != entries)
+        let entries = self.layout.counts.entry_count(names);
+        falls || offset > entries || (j == self.layout.counts.junctions && offset != entries)
     }
 
     // The place of the first bad offset of the rows that name their hubs so.
     fn bad_offset(&self, names: Names) -> Option<u64>
-        ensures { FirstInPart (offsets_at self.now.counts names) (bad_offset self.now.words.now self.now.counts names) result }
+        ensures { FirstInPart (offsets_at self.now.layout.counts names) (bad_offset self.now.words.now self.now.layout.counts names) result }
     {
-        let offsets = self.sections.offsets(names);
-        (0..=self.counts.junctions)
+        let offsets = self.layout.sections.offsets(names);
+        (0..=self.layout.counts.junctions)
             .find(|&j| self.is_bad_offset(names, j))
             .map(|j| offsets.place(j))
     }
 
     // The place of the first bad word of those rows.
     fn bad_row<M: Measure>(&self, names: Names) -> Option<u64>
-        ensures { FirstIn (row_parts M.Measure.scale self.now.words.now self.now.counts names) result }
+        ensures { FirstIn (row_parts M.Measure.scale self.now.words.now self.now.layout.counts names) result }
     {
         self.bad_offset(names)
             .or_else(|| self.bad_entry::<M>(names))
@@ -175,7 +175,7 @@ impl<'a> Laid<'a> {
 
     // The place of the first bad word after the counts.
     fn first_bad<M: Measure>(&self) -> Option<u64>
-        ensures { FirstIn (place_parts self.now.words.now self.now.counts ++ (row_parts M.Measure.scale self.now.words.now self.now.counts Ranks ++ row_parts M.Measure.scale self.now.words.now self.now.counts Hubs)) result }
+        ensures { FirstIn (place_parts self.now.words.now self.now.layout.counts ++ (row_parts M.Measure.scale self.now.words.now self.now.layout.counts Ranks ++ row_parts M.Measure.scale self.now.words.now self.now.layout.counts Hubs)) result }
     {
         self.bad_place()
             .or_else(|| self.bad_row::<M>(Names::Ranks))
@@ -202,11 +202,7 @@ pub fn open<M: Measure>(words: &[u64]) -> Result<Book<'_>, Refusal>
         return Err(bad_word(place));
     }
     let layout = counts.layout();
-    let laid = Laid {
-        words,
-        counts,
-        sections: layout.sections,
-    };
+    let laid = Laid { words, layout };
     if let Some(place) = laid.first_bad::<M>() {
         return Err(bad_word(place));
     }

@@ -19,7 +19,7 @@ returns-in-Some-first_bad g c =
     let place = c.in-Some-first_bad.place in
     rw c.bad_word-in-Some-first_bad.ensures
     (refused_rightly s ws counts c.in_ok-counts.ensures place
-    (book_by_sections s ws counts (Some place) c.in_default.ensures c.in-Some-first_bad.ensures))
+    (book_by_sections s ws counts (Some place) c.in_default.ensures c.layout-layout.result.counts c.layout-layout.ensures c.in-Some-first_bad.ensures))
 
 pub returns : goal.returns
 returns g c =
@@ -27,6 +27,6 @@ returns g c =
     let ws = c.args.words.now in
     let counts = c.in_ok-counts.counts in (
       opened_rightly s ws counts c.in_ok-counts.ensures
-          (book_by_sections s ws counts None c.in_default.ensures c.in_default-first_bad.ensures),
+          (book_by_sections s ws counts None c.in_default.ensures c.layout-layout.result.counts c.layout-layout.ensures c.in_default-first_bad.ensures),
       record { words = refl; counts = c.layout-layout.ensures ∙ counted s ws counts c.in_ok-counts.ensures },
     )

@@ -10,7 +10,7 @@ use Rattle.book.proofs.laid.Laid.bad_entry.Goals as goal
 
 pub map-requires : goal.map-requires
 map-requires g c j is =
-    let counts = c.args.self.now.counts in
+    let counts = c.args.self.now.layout.counts in
     let test = bad_entry g.M.Measure.scale c.args.self.now.words.now counts c.args.names in
     let found = rows_searched g.M.Measure.scale c.args.self.now.words.now counts c.args.names _ c.new.result c.find_map.result c.requires
     c.new.ensures.start c.new.ensures.end c.new.ensures.exhausted (λ v y q l m called. search rules)
@@ -20,10 +20,10 @@ map-requires g c j is =
 
 pub returns : goal.returns
 returns g c =
-    let counts = c.args.self.now.counts in
+    let counts = c.args.self.now.layout.counts in
     let test = bad_entry g.M.Measure.scale c.args.self.now.words.now counts c.args.names in
     first_of_part (part (entries_at counts c.args.names) test) c.entries-entries.result.first (2 * entry_count counts c.args.names)
-    (ap (λ (p : Span). p.first) c.entries-entries.ensures ∙ (spans_entries counts c.args.self.now.sections c.args.names c.args.self.now.laid).first) (entries_size counts c.args.names) _ _
+    (ap (λ (p : Span). p.first) c.entries-entries.ensures ∙ (spans_entries counts c.args.self.now.layout.sections c.args.names c.args.self.now.layout.laid).first) (entries_size counts c.args.names) _ _
     (rows_searched g.M.Measure.scale c.args.self.now.words.now counts c.args.names _ c.new.result c.find_map.result c.requires
     c.new.ensures.start c.new.ensures.end c.new.ensures.exhausted (λ v y q l m called. search rules)
     (λ a y q called. search rules) c.find_map.ensures.runs)

@@ -9,12 +9,12 @@ use Rattle.book.proofs.laid.Laid.bad_offset.Goals as goal
 
 pub returns : goal.returns
 returns c =
-    let counts = c.args.self.now.counts in
+    let counts = c.args.self.now.layout.counts in
     let names = c.args.names in
     let test = bad_offset c.args.self.now.words.now counts names in
     let run = c.find.ensures.runs in
     first_of_part (part (offsets_at counts names) test) c.offsets-offsets.result.first (counts.junctions + 1)
-    (ap (λ (p : Span). p.first) c.offsets-offsets.ensures ∙ (spans_offsets counts c.args.self.now.sections names c.args.self.now.laid).first) (offsets_size counts names) _ _
+    (ap (λ (p : Span). p.first) c.offsets-offsets.ensures ∙ (spans_offsets counts c.args.self.now.layout.sections names c.args.self.now.layout.laid).first) (offsets_size counts names) _ _
     (found_first run.0 _ 0 (counts.junctions + 1) test
     (goes_up_to run.0 c.new.result 0 counts.junctions run.1 c.new.ensures.start c.new.ensures.end c.new.ensures.exhausted)
     (λ a b q k. search rules) (λ x b q k. search rules) c.find.result run.2)
