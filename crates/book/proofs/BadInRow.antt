@@ -1,5 +1,6 @@
 -- Within a row, its words are bad exactly where the entries' are. Assumes nothing.
-use Rattle.std.proofs.Common.{◌≡◌, ℕ, ◌+◌, ◌-◌, ◌*◌, ◌/◌, ◌%◌, ◌<◌, ◌≤◌, cond, eqb, List, ap, arith}
+use Rattle.std.proofs.Common.{◌≡◌, ℕ, ◌+◌, ◌-◌, ◌*◌, ◌/◌, ◌%◌, ◌<◌, ◌≤◌, false, cond, eqb, List, ap, subst, ⊎_elim, arith}
+use Rattle.std.proofs.lemmas.Bool.{cases_eq}
 use Rattle.measure.specs.Scale.{Scale}
 use Rattle.book.specs.declared.counts.Counts.{Counts}
 use Rattle.book.specs.declared.names.Names.{Names}
@@ -30,3 +31,17 @@ module _ (s : Scale) (ws : List ℕ) (c : Counts) (names : Names) (ready : Ready
   pub same_word : (j : ℕ) → 2 * offset ws c names (v - 1) ≤ j → j < 2 * offset ws c names v → bad_entry s ws c names j ≡ bad_word_in s ws c names v (offset ws c names (v - 1)) j
   same_word j low high =
       ap (λ b. cond (eqb (j % 2) 0) b (bad_value s (entry_word ws c names j))) (same_name (j / 2) (omega arith) (omega arith))
+
+-- where neither the name nor the value of entry number e is bad, none of its words is
+pub neither_bad :
+    (s : Scale) (ws : List ℕ) (c : Counts) (names : Names) (v from e : ℕ) → bad_name_in ws c names v from e ≡ false
+    → bad_value s (entry_word ws c names (2 * e + 1)) ≡ false
+    → (j : ℕ) → 2 * e ≤ j → j < 2 * (e + 1) → bad_word_in s ws c names v from j ≡ false
+neither_bad s ws c names v from e name value j low high =
+    ⊎_elim
+    (λ is. let even : j % 2 ≡ 0 = omega arith in let half : j / 2 ≡ e = omega arith in rw (even, half) name)
+    (λ ne.
+    let odd : j % 2 ≡ 1 = omega arith in
+    let this : 2 * e + 1 ≡ j = omega arith in
+    rw odd (subst (λ i. bad_value s (entry_word ws c names i) ≡ false) this value))
+    (cases_eq j (2 * e))

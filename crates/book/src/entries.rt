@@ -1,4 +1,4 @@
-// The first bad word of the entries of a book.
+// The rows of one kind, searched one after another for the first bad word of their entries.
 ghost use Rattle.std.specs.Prelude.{◌≡◌, ◌-◌, ◌*◌, ◌≤◌};
 ghost use Rattle.book.specs.Bad.{offset, entries_at, bad_entry, Finds};
 ghost use Rattle.book.specs.Found.{FirstInPart};
@@ -9,42 +9,44 @@ use super::names::Names;
 use super::row::Row;
 use measure::Measure;
 
-impl<'a> Laid<'a> {
+// The rows of one kind, of which no offset is bad.
+#[derive(Clone, Copy, PartialEq, Eq, Debug)]
+pub(crate) struct Rows<'a> {
+    pub(crate) laid: Laid<'a>,
+    pub(crate) names: Names,
+    ghost good: { GoodOffsets laid.words.now laid.layout.counts names },
+}
+
+impl<'a> Rows<'a> {
     // The row of a junction.
-    fn row(&self, names: Names, junction: u64) -> Row<'a>
-        requires some { (1 ≤ junction) × (junction ≤ self.now.layout.counts.junctions) }
-        requires good { GoodOffsets self.now.words.now self.now.layout.counts names }
-        ensures words { result.laid.words.now ≡ self.now.words.now }
-        ensures counts { result.laid.layout.counts ≡ self.now.layout.counts }
-        ensures names { result.names ≡ names }
+    fn row(&self, junction: u64) -> Row<'a>
+        requires { (1 ≤ junction) × (junction ≤ self.now.laid.layout.counts.junctions) }
+        ensures rows { result.rows ≡ self.now }
         ensures junction { result.junction ≡ junction }
     {
         Row {
-            laid: *self,
-            names,
+            rows: *self,
             junction,
-            from: self.offset(names, junction - 1),
-            to: self.offset(names, junction),
+            from: self.laid.offset(self.names, junction - 1),
+            to: self.laid.offset(self.names, junction),
         }
     }
 
     // The first bad word of the row of a junction.
-    fn bad_in_row<M: Measure>(&self, names: Names, junction: u64) -> Option<u64>
-        requires some { (1 ≤ junction) × (junction ≤ self.now.layout.counts.junctions) }
-        requires good { GoodOffsets self.now.words.now self.now.layout.counts names }
-        ensures { Finds (bad_entry M.Measure.scale self.now.words.now self.now.layout.counts names) (2 * offset self.now.words.now self.now.layout.counts names (junction - 1)) (2 * offset self.now.words.now self.now.layout.counts names junction) result }
+    fn bad_in_row<M: Measure>(&self, junction: u64) -> Option<u64>
+        requires { (1 ≤ junction) × (junction ≤ self.now.laid.layout.counts.junctions) }
+        ensures { Finds (bad_entry M.Measure.scale self.now.laid.words.now self.now.laid.layout.counts self.now.names) (2 * offset self.now.laid.words.now self.now.laid.layout.counts self.now.names (junction - 1)) (2 * offset self.now.laid.words.now self.now.laid.layout.counts self.now.names junction) result }
     {
-        self.row(names, junction).first_bad::<M>()
+        self.row(junction).first_bad::<M>()
     }
 
-    // The place of the first bad word of the border entries or of the district entries.
-    pub(crate) fn bad_entry<M: Measure>(&self, names: Names) -> Option<u64>
-        requires { GoodOffsets self.now.words.now self.now.layout.counts names }
-        ensures { FirstInPart (entries_at self.now.layout.counts names) (bad_entry M.Measure.scale self.now.words.now self.now.layout.counts names) result }
+    // The place of the first bad word of the entries.
+    pub(crate) fn bad_entry<M: Measure>(&self) -> Option<u64>
+        ensures { FirstInPart (entries_at self.now.laid.layout.counts self.now.names) (bad_entry M.Measure.scale self.now.laid.words.now self.now.laid.layout.counts self.now.names) result }
     {
-        let entries = self.layout.sections.entries(names);
-        (1..=self.layout.counts.junctions)
-            .find_map(|junction| self.bad_in_row::<M>(names, junction))
+        let entries = self.laid.layout.sections.entries(self.names);
+        (1..=self.laid.layout.counts.junctions)
+            .find_map(|junction| self.bad_in_row::<M>(junction))
             .map(|j| entries.place(j))
     }
 }

@@ -5,10 +5,12 @@ ghost use Rattle.book.specs.Found.{first_true, FirstIn, FirstInPart, Few, MarkTh
 ghost use Rattle.book.specs.Layout.{counts_of, total, words_in, places_at, order_at};
 ghost use Rattle.book.specs.Opened.{open_checks, OpensExactlyBooks};
 ghost use Rattle.book.specs.declared.names.Names.TheVariants.{Ranks, Hubs};
+ghost use Rattle.book.specs.Ready.{GoodOffsets};
 ghost use Rattle.drawing.specs.declared.refusal.Refusal.TheVariants.{BadEntry};
 ghost use Rattle.drawing.specs.declared.refusal.Table.TheVariants.{Book as of_the_book};
 ghost use Rattle.drawing.specs.Outcomes.{verdict, Ends};
 
+use super::entries::Rows;
 use super::laid::Laid;
 use super::names::Names;
 use super::{Book, Counts};
@@ -169,8 +171,11 @@ impl<'a> Laid<'a> {
     fn bad_row<M: Measure>(&self, names: Names) -> Option<u64>
         ensures { FirstIn (row_parts M.Measure.scale self.now.words.now self.now.layout.counts names) result }
     {
-        self.bad_offset(names)
-            .or_else(|| self.bad_entry::<M>(names))
+        self.bad_offset(names).or_else(
+            ||
+                requires { GoodOffsets self.now.words.now self.now.layout.counts names }
+            { Rows { laid: *self, names }.bad_entry::<M>() },
+        )
     }
 
     // The place of the first bad word after the counts.
