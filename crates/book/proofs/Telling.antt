@@ -1,8 +1,9 @@
 -- What an opened book tells: the words of its sections. Assumes nothing.
-use Rattle.std.proofs.Common.{◌≡◌, ℕ, ◌+◌, ◌-◌, ◌<◌, ◌≤◌, not, ltb, List, [], ◌∷◌, get_or, Some, None, Ok, sym, ap, ◌∙◌, subst, arith}
+use Rattle.std.proofs.Common.{◌≡◌, ℕ, ◌+◌, ◌-◌, ◌<◌, ◌≤◌, Bool, true, false, cond, not, ltb, List, [], ◌∷◌, get_or, Some, None, Ok, Err, Result, refl, sym, ap, ◌∙◌, subst, arith}
 use Rattle.std.proofs.lemmas.Bool.{cond-true, lt-ltb}
 use Rattle.drawing.specs.Edits.{within}
 use Rattle.drawing.specs.Outcomes.{refuse, verdict, Ends}
+use Rattle.drawing.specs.declared.refusal.Refusal.{Refusal}
 use Rattle.drawing.specs.declared.refusal.Refusal.TheVariants.{NoJunction}
 use Rattle.book.specs.Layout.{word, counts_of, Section, Spans, places_at, order_at}
 use Rattle.book.specs.Opened.{Shows}
@@ -11,8 +12,16 @@ use Rattle.book.specs.Sections.{HasSections}
 use Rattle.book.specs.Told.{border_order, border_of}
 use Rattle.book.specs.declared.opened.Book.{Book}
 use Rattle.book.specs.declared.span.Span.{Span}
-use Rattle.drawing.proofs.Within.{is_within}
+use Rattle.drawing.proofs.Within.{is_within, between}
 use Rattle.book.proofs.SectionWords.{section_word}
+
+-- a junction that is not refused is there
+no_failure : (b : Bool) → ◌≡◌ {A = Result Unit Refusal} (Ok tt) (cond b (Err NoJunction) (Ok tt)) → b ≡ false
+no_failure true h = let z : ◌≡◌ {A = ℕ} 0 1 = cc in absurd (omega arith)
+no_failure false h = refl
+
+pub junction_is_there : (n v : ℕ) → ◌≡◌ {A = Result Unit Refusal} (Ok tt) (verdict (refuse NoJunction (not (within 1 n v)) ∷ [])) → (1 ≤ v) × (v ≤ n)
+junction_is_there n v h = between 1 n v (no_failure (not (within 1 n v)) h)
 
 -- the border of a rank that there is
 pub border_of_rank : (ws : List ℕ) (rank : ℕ) → rank < word ws 4 → border_of ws rank ≡ Some (get_or (border_order ws) rank 0)

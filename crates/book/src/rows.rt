@@ -1,4 +1,8 @@
 // The rows of an opened book.
+ghost use Rattle.std.specs.Prelude.{◌≡◌, not, [], ◌∷◌};
+ghost use Rattle.drawing.specs.Edits.{within};
+ghost use Rattle.drawing.specs.Outcomes.{refuse, verdict};
+ghost use Rattle.drawing.specs.declared.refusal.Refusal.TheVariants.{NoJunction};
 ghost use Rattle.book.specs.Opened.{HandsOutTheRow};
 ghost use Rattle.book.specs.Parts.{IsPart, IsWord, IsStretch};
 ghost use Rattle.book.specs.Sections.{offsets_of};
@@ -42,6 +46,17 @@ impl<'a> Book<'a> {
             .unwrap_or(0)
     }
 
+    // Refuses a number that no junction of the book has.
+    pub(crate) fn check_junction(&self, junction: u64) -> Result<(), Refusal>
+        ensures { result ≡ verdict (refuse NoJunction (not (within 1 self.now.layout.counts.junctions junction)) ∷ []) }
+    {
+        if (1..=self.layout.counts.junctions).contains(&junction) {
+            Ok(())
+        } else {
+            Err(Refusal::NoJunction)
+        }
+    }
+
     // Offset number j of the rows with these names.
     fn offset(&self, names: Names, j: u64) -> u64
         ensures { IsWord self.now.words.now (offsets_of self.now.layout.sections names) j result }
@@ -53,9 +68,7 @@ impl<'a> Book<'a> {
     fn row(&self, names: Names, junction: u64) -> Result<&'a [u64], Refusal>
         ensures { (s : Scale) → HandsOutTheRow s names self.now junction result }
     {
-        if junction < 1 || junction > self.layout.counts.junctions {
-            return Err(Refusal::NoJunction);
-        }
+        self.check_junction(junction)?;
         let begin = self.offset(names, junction - 1);
         let end = self.offset(names, junction);
         part(

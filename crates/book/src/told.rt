@@ -17,9 +17,7 @@ impl<'a> Book<'a> {
     pub fn district(&self, junction: u64) -> Result<u64, Refusal>
         ensures { (s : Scale) → TellsTheDistrict s self.now junction result }
     {
-        if junction < 1 || junction > self.layout.counts.junctions {
-            return Err(Refusal::NoJunction);
-        }
+        self.check_junction(junction)?;
         Ok(self.word_in(self.layout.sections.places, junction - 1))
     }
 
