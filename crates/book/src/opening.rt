@@ -61,7 +61,7 @@ impl Counts {
         10 + 3 * self.junctions + self.borders + 2 * self.border_entries + 2 * self.district_entries
     }
 
-    // The place of the first bad count.
+    // The place of the first bad count: they are words 2 to 7.
     fn first_bad(&self) -> Option<u64>
         ensures { result ≡ first_true 0 (count_faults self.now) }
     {
@@ -135,7 +135,8 @@ impl<'a> Laid<'a> {
     fn bad_place(&self) -> Option<u64>
         ensures { FirstIn (place_parts self.now.words.now self.now.layout.counts) result }
     {
-        // A match and no `or_else`: tried, bare and with a clause of its own, and no proof learns what the closure answered.
+        // A match and no `or_else`: tried, bare, with a clause of its own, with `move` and through a wrapper, and no proof learns what
+        // the closure answered.
         match self.bad_district() {
             Some(place) => Some(place),
             None => self.bad_border(),
@@ -157,7 +158,7 @@ impl<'a> Laid<'a> {
         falls || offset > entries || (j == self.layout.counts.junctions && offset != entries)
     }
 
-    // The place of the first bad offset of the rows that name their hubs so.
+    // The place of the first bad offset of the rows of this kind.
     fn bad_offset(&self, names: Names) -> Option<u64>
         ensures { FirstInPart (offsets_at self.now.layout.counts names) (bad_offset self.now.words.now self.now.layout.counts names) result }
     {

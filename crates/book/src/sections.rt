@@ -21,7 +21,7 @@ pub(crate) struct Sections {
 }
 
 impl Sections {
-    // The offsets of the rows that name their hubs so.
+    // The offsets of the rows of this kind.
     pub(crate) fn offsets(&self, names: Names) -> Span
         ensures { result ≡ offsets_of self.now names }
     {
@@ -76,7 +76,7 @@ impl Counts {
         }
     }
 
-    // How many entries the rows that name their hubs so have.
+    // How many entries the rows of this kind have.
     pub(crate) fn entry_count(&self, names: Names) -> u64
         ensures { result ≡ entry_count self.now names }
     {

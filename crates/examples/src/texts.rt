@@ -48,7 +48,7 @@ fn faults(
             assert_eq!(rt; fault.cause.number(), cause);
             Ok(())
         }
-        None => Err(Fail::new("read")),
+        None => Err(Fail::new("read, and not refused")),
     }
 }
 
@@ -169,9 +169,7 @@ fn a_fourth_road_in_three_records(rt: HostRuntime) -> Result<(), Fail> {
 fn long(heap: Global, bytes: usize) -> Result<Vec<u8>, Fail> {
     let mut text = Vec::new(heap);
     text.extend_from_slice(b"p sp 2 0\nc ")?;
-    for _ in 11..bytes {
-        text.push(b'x')?;
-    }
+    text.resize(bytes, b'x')?;
     Ok(text)
 }
 

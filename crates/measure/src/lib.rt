@@ -9,13 +9,13 @@ ghost use Rattle.measure.specs.Laws.{metres_laws, clearance_laws};
 
 // A measure says how roads are valued: which words are values, which of two is better, how two join into one.
 pub trait Measure {
-    // the measure's number
+    // the measure's number, as a book holds it
     const TAG: u64;
 
     // the value of the walk of no road
     const START: u64;
 
-    // the value that says that there is no walk
+    // the value that says that there is no walk: a word like the others, since books and tables hold words
     const NONE: u64;
 
     // The three constants in clauses.

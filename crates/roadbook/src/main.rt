@@ -2,9 +2,9 @@
 #![tactic(auto)]
 
 use anyhow::anyhow;
-use drawing::{Junction, Road};
+use drawing::{Junction, MOST_DISTRICTS, Road};
 use measure::Metres;
-use roadtext::{Reading, Unread, read};
+use roadtext::{MOST_BYTES, Reading, Unread, read};
 use std::alloc::Global;
 use std::fmt;
 use std::io::Read;
@@ -13,7 +13,7 @@ use std::io::Read;
 const ENTRIES: usize = 8_192;
 
 // One byte more than a text may have: so much is ever held.
-const HELD: usize = 65_537;
+const HELD: usize = MOST_BYTES + 1;
 
 // Standard input up to its end, or one byte more than a text may have.
 fn hold(rt: &HostRuntime, heap: Global) -> anyhow::Result<Vec<u8>> {
@@ -26,14 +26,14 @@ fn hold(rt: &HostRuntime, heap: Global) -> anyhow::Result<Vec<u8>> {
 fn districts_in_use(junctions: &[Junction], n: u64) -> u32 {
     let mut used: u64 = 0;
     for junction in junctions.iter().take(n as usize) {
-        if junction.district < 64 {
+        if junction.district < MOST_DISTRICTS {
             used |= 1 << junction.district;
         }
     }
     used.count_ones()
 }
 
-// Prints what was read.
+// Prints what was read. (Two tables, as every call of a drawing is lent them.)
 fn state(
     rt: &impl Print,
     reading: &Reading,

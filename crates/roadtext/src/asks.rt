@@ -21,7 +21,8 @@ fn keep(asks: &mut Vec<Ask>, event: Option<Event>) -> Result<(), Unread>
     Ok(())
 }
 
-// The asks of a text without fault, in order.
+// The asks of a text without fault, in order. (The loop of `draw`, but for what is done with an event: a closure for that would
+// have to hold the list here, and a drawing and two tables there.)
 pub(crate) fn asks_in<M: Measure>(heap: Global, text: &[u8], room: Room) -> Result<Vec<Ask>, Unread>
     ensures { MatchResult result (λ v. (st : State) → read_text M.Measure.scale room text.now ≡ Ok st → v.items ≡ st.asks) (λ e. e ≡ no_memory) }
 {

@@ -10,13 +10,14 @@ use super::walk::Walk;
 use measure::Measure;
 
 // A text has at most so many bytes.
-const MOST_BYTES: usize = 65_536;
+pub const MOST_BYTES: usize = 65_536;
 
 // Checks a road text for tables with this room: the number of its junctions, or its first fault.
 pub fn check<M: Measure>(text: &[u8], room: Room) -> Result<u64, Fault>
     ensures reads { result ≡ junctions_read (read_text M.Measure.scale room text.now) }
     ensures counts { IfOk result (λ n. Startable room.places n) }
 {
+    // The rules give such a fault the line 0 and the field 0.
     if text.len() > MOST_BYTES {
         return Err(Fault {
             line: 0,

@@ -1,6 +1,4 @@
 // Drawing a text that has no fault.
-ghost use Rattle.std.specs.Prelude.{◌≡◌};
-ghost use Rattle.roadtext.specs.Read.{room_of};
 ghost use Rattle.roadtext.specs.Drawn.{DrawsEvent, DrawsText};
 
 use super::parts::Room;
@@ -9,17 +7,7 @@ use super::walk::Walk;
 use drawing::{Junction, MOST_DISTRICTS, Refusal, Rest, Road};
 use measure::Measure;
 
-// The room that there is in two tables.
-pub(crate) fn room_in(junctions: &[Junction], roads: &[Road]) -> Room
-    ensures { result ≡ room_of junctions.now roads.now }
-{
-    Room {
-        places: junctions.len() as u64,
-        records: roads.len() as u64,
-    }
-}
-
-// Draws what one line adds.
+// Draws what one line adds. (Two tables, as every call of a drawing is lent them.)
 fn draw_event<M: Measure>(
     drawing: &mut Rest,
     event: Option<Event>,
@@ -47,7 +35,7 @@ pub(crate) fn draw<M: Measure>(
 ) -> Result<Rest, Refusal>
     ensures { DrawsText M.Measure.scale text.now count junctions.old roads.old result junctions.new roads.new }
 {
-    let room = room_in(junctions, roads);
+    let room = Room::of(junctions, roads);
     let mut drawing = Rest::start::<M>(count, MOST_DISTRICTS, junctions)?;
     for event in Walk::<M>::over(text, room) {
         let Ok(event) = event else {

@@ -17,7 +17,7 @@ mod theorems;
 mod walk;
 
 pub use answer::answer_line;
-pub use checking::check;
+pub use checking::{MOST_BYTES, check};
 pub use fault::{Cause, Fault};
 pub use outcome::{Reading, Unread};
 pub use parts::{Arc, Ask, Move, Room};

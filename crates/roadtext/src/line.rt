@@ -42,7 +42,8 @@ pub(crate) fn fault_if(fails: bool, field: u64, cause: Cause) -> Result<(), Line
     }
 }
 
-// The junction in field number `i`, of a drawing with so many.
+// The junction in field number `i`, of a drawing with so many. (`line` and `junctions` stay two parameters here and below: a struct
+// of both would be made by each caller for one use.)
 fn junction_at(line: &[u8], i: u64, junctions: u64) -> Result<u64, LineFault>
     ensures { result ≡ passed (junction_checks junctions (fields line.now) i) (number_at (fields line.now) i) }
 {

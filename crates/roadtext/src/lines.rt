@@ -9,7 +9,8 @@ fn line_end(text: &[u8]) -> Option<usize>
     text.iter().position(|b| *b == b'\n')
 }
 
-// The first line of a text, without its end, and what comes after it; nothing where the text has no byte.
+// The first line of a text, without its end, and what comes after it; nothing where the text has no byte. (By hand: the library's
+// `split_inclusive` would leave the end on each line, and has a closure in its type, which a walk would then have too.)
 pub(crate) fn cut_line(text: &[u8]) -> Option<(&[u8], &[u8])>
     ensures { MatchOption result (lines text.now ≡ []) (λ p. CutLine text.now p.0.now p.1.now) }
 {

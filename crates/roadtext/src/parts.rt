@@ -1,14 +1,28 @@
 // What road text is made of, as it is read.
 ghost use Rattle.std.specs.Prelude.{◌≡◌};
 ghost use Rattle.roadtext.specs.Reading.{fault_at, reversed};
+ghost use Rattle.roadtext.specs.Read.{room_of};
 
 use super::fault::{Cause, Fault};
+use drawing::{Junction, Road};
 
 // The room there is: entries of the junction table, records of the road table.
 #[derive(Clone, Copy, PartialEq, Eq, Debug)]
 pub struct Room {
     pub places: u64,
     pub records: u64,
+}
+
+impl Room {
+    // The room that there is in two tables.
+    pub(crate) fn of(junctions: &[Junction], roads: &[Road]) -> Room
+        ensures { result ≡ room_of junctions.now roads.now }
+    {
+        Room {
+            places: junctions.len() as u64,
+            records: roads.len() as u64,
+        }
+    }
 }
 
 // An arc line: from one junction to another, with a value. A road is read as its first arc.
@@ -48,14 +62,14 @@ pub struct Ask {
 
 // The `p` line: the number of junctions, and of arc lines to come.
 #[derive(Clone, Copy, PartialEq, Eq, Debug)]
-pub struct Head {
+pub(crate) struct Head {
     pub junctions: u64,
     pub arcs: u64,
 }
 
 // A fault of a line: the field, counted from 1, and the cause.
 #[derive(Clone, Copy, PartialEq, Eq, Debug)]
-pub struct LineFault {
+pub(crate) struct LineFault {
     pub field: u64,
     pub cause: Cause,
 }
@@ -76,7 +90,7 @@ impl LineFault {
 // Which line is awaited: the `p` line; the first arc of a road, while so many arcs are to come; the twin of an arc, while so many
 // are to come after it; a `d` line or a `q` line; a `q` line.
 #[derive(Clone, Copy, PartialEq, Eq, Debug)]
-pub enum Stage {
+pub(crate) enum Stage {
     Head,
     Arc(u64),
     Twin(Arc, u64),

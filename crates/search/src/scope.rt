@@ -1,7 +1,7 @@
 // Which roads a search may use.
 
 // All open roads, or the open roads with both ends in one district.
-#[derive(Clone, Copy)]
+#[derive(Clone, Copy, PartialEq, Eq, Debug)]
 pub enum Scope {
     Everywhere,
     Inside(u64),

@@ -15,7 +15,7 @@ loop-event-init g c =
       tt,
       nothing_read,
       subst (λ q. Midway g.M.Measure.scale room c.args.text.now q nothing_read) (sym c.into_iter-event-iterator.ensures.into_iter_gives)
-          (midway_start g.M.Measure.scale room c.args.text.now c.over-event-items.result (w.progress ∙ ap (λ r. progress_of r nothing_read) c.room_in-room.ensures) w.number w.rest),
+          (midway_start g.M.Measure.scale room c.args.text.now c.over-event-items.result (w.progress ∙ ap (λ r. progress_of r nothing_read) c.of-room.ensures) w.number w.rest),
       started_far g.M.Measure.scale c.args.count c.args.junctions.now c.in_ok-drawing.drawing c.start.new.junctions c.args.roads.now c.in_ok-drawing.ensures,
     )
 

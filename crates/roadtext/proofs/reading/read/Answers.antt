@@ -7,5 +7,5 @@ use Rattle.roadtext.proofs.reading.read.Goals as goal
 pub returns-in_err-asks : goal.returns-in_err-asks
 returns-in_err-asks g c =
     let read : Ok c.in_ok-count.count ≡ junctions_read (read_text g.M.Measure.scale (room_of c.args.junctions.now c.args.roads.now) c.args.text.now) =
-    subst (λ r. Ok c.in_ok-count.count ≡ junctions_read (read_text g.M.Measure.scale r c.args.text.now)) c.room_in-room.ensures c.in_ok-count.ensures.reads in
+    subst (λ r. Ok c.in_ok-count.count ≡ junctions_read (read_text g.M.Measure.scale r c.args.text.now)) c.of-room.ensures c.in_ok-count.ensures.reads in
     search rules
