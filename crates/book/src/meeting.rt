@@ -1,5 +1,5 @@
 // Two rows of an opened book joined.
-ghost use Rattle.std.specs.Prelude.{◌≡◌, ℕ, List};
+ghost use Rattle.std.specs.Prelude.{ℕ, List};
 ghost use Rattle.book.specs.Opened.{IsBook, JoinsTwoRows};
 ghost use Rattle.book.specs.Told.{JoinsBorderRows, RowsAreRows};
 

@@ -1,5 +1,5 @@
 // Opening a book.
-ghost use Rattle.std.specs.Prelude.{◌≡◌, ◌+◌, ◌<◌, ◌≤◌, [], ◌++◌, length, take};
+ghost use Rattle.std.specs.Prelude.{◌≡◌, ◌<◌, ◌≤◌, ◌++◌, take};
 ghost use Rattle.book.specs.Bad.{count_faults, bad_district, bad_border, bad_offset, offsets_at, place_parts, row_parts};
 ghost use Rattle.book.specs.Found.{first_true, FirstIn, FirstInPart, Few, MarkTheBorders};
 ghost use Rattle.book.specs.Layout.{counts_of, total, words_in, places_at, order_at};

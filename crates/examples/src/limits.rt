@@ -1,5 +1,5 @@
 // Each limit of a drawing, at its edge and one past it.
-use drawing::{Junction, Mark, Refusal, Rest, Road};
+use drawing::{Junction, Refusal, Rest, Road};
 use measure::{Clearance, Measure, Metres};
 use std::process::Abort;
 use std::test::Fail;

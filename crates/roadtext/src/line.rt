@@ -1,5 +1,5 @@
 // One line of each kind, checked field by field from the left.
-ghost use Rattle.std.specs.Prelude.{◌≡◌, ◌^◌, ◌<◌, [], ◌∷◌, ◌==◌};
+ghost use Rattle.std.specs.Prelude.{◌≡◌, ◌^◌, ◌<◌, [], ◌∷◌};
 ghost use Rattle.roadtext.specs.Text.{fields, letter_of};
 ghost use Rattle.roadtext.specs.Lines.{check, no_number, number_at, field_is, junction_checks, end_check, p_checks, a_checks, d_checks, q_checks, passed};
 ghost use Rattle.roadtext.specs.Lines.{head_in, arc_in, move_in, ask_in};
