@@ -1,5 +1,5 @@
 // A search: sweeps over the roads, each of which improves what stands at its two ends, until a sweep changes nothing.
-ghost use Rattle.std.specs.Prelude.{◌≡◌, ◌-◌, false, [], ◌∷◌, map, length, slice_index, slice_index_or};
+ghost use Rattle.std.specs.Prelude.{◌≡◌, ◌-◌, false, [], ◌∷◌, map, length, slice_index, slice_index_or, slice_set};
 ghost use Rattle.measure.specs.Scale.{counts};
 ghost use Rattle.network.specs.Walks.{arc};
 ghost use Rattle.drawing.specs.Borders.{places_in};
@@ -20,22 +20,27 @@ fn word_of<M: Measure>(values: &[u64], junction: u64) -> u64
         .unwrap_or(M::NONE)
 }
 
-// Improves the word of one junction by an arc that leads there from another, and says whether it did.
+// Writes the word of a junction, where there is one for it.
+fn write(values: &mut [u64], junction: u64, word: u64)
+    ensures { values.new ≡ slice_set values.old (junction - 1) word }
+{
+    let index = junction.saturating_sub(1) as usize;
+    if index < values.len() {
+        values[index] = word;
+    }
+}
+
+// Improves the word of a junction by an arc that leads there, and says whether it does.
 fn improve<M: Measure>(values: &mut [u64], first: u64, second: u64, value: u64) -> bool
     ensures written { values.new ≡ after_arc M.Measure.scale values.old (arc first second value) }
     ensures told { result ≡ false → values.new ≡ values.old }
 {
     let brought = M::join(value, word_of::<M>(values, first));
-    if !M::better(brought, word_of::<M>(values, second)) {
-        return false;
+    let improves = M::better(brought, word_of::<M>(values, second));
+    if improves {
+        write(values, second, brought);
     }
-    match values.get_mut(second.saturating_sub(1) as usize) {
-        Some(word) => {
-            *word = brought;
-            true
-        }
-        None => false,
-    }
+    improves
 }
 
 // Leaves what each word counts as.
