@@ -1,5 +1,5 @@
 -- Sweeps over the arcs in a search's scope leave the best. Assumes nothing.
-use Rattle.std.proofs.Common.{◌≡◌, ℕ, ◌-◌, ◌≤◌, Bool, true, false, cond, ◌&&◌, eqb, ◌⊎◌, List, [], ◌∷◌, ◌++◌, map, length, get_or, take, filter, sym, refl, ap, ◌∙◌, subst, inl, inr, ⊎_elim, arith}
+use Rattle.std.proofs.Common.{◌≡◌, ℕ, ◌-◌, ◌<◌, ◌≤◌, Bool, true, false, cond, ◌&&◌, eqb, ◌⊎◌, List, [], ◌∷◌, ◌++◌, map, length, get_or, take, filter, sym, refl, ap, ◌∙◌, subst, inl, inr, ⊎_elim, arith}
 use Rattle.std.proofs.lemmas.List.{get_or_default, length-map}
 use Rattle.std.proofs.Math.ListN.{get_or-map}
 use Rattle.measure.specs.Scale.{Scale, Value, Laws, NoWorse, counts}
@@ -32,13 +32,138 @@ both_or_none true false x y us rest e = e
 both_or_none false true x y us rest e = e
 both_or_none false false x y us rest e = e
 
+everywhere : (places : List ℕ) (rs : List Road) → used_arcs places Everywhere rs ≡ arcs_of (map road_of rs)
+everywhere places [] = refl
+everywhere places (r ∷ rs) =
+    let there = arc r.first r.second r.value in
+    let back = arc r.second r.first r.value in
+    elim (is_open r.mark) as (λ t.
+      cond (t && true) (there ∷ back ∷ used_arcs places Everywhere rs) (used_arcs places Everywhere rs)
+      ≡ cond t (there ∷ back ∷ arcs_of (map road_of rs)) (arcs_of (map road_of rs))) [
+      | true ↦ ap (λ l. there ∷ back ∷ l) (everywhere places rs)
+      | false ↦ everywhere places rs
+    ]
+
+inside : (net : Network) (k : ℕ) (rs : List Road) → used_arcs net.places (Inside k) rs ≡ filter (runs_inside net k) (arcs_of (map road_of rs))
+inside net k [] = refl
+inside net k (r ∷ rs) =
+    let there = arc r.first r.second r.value in
+    let back = arc r.second r.first r.value in
+    let a = eqb (district net r.first) k in
+    let b = eqb (district net r.second) k in
+    let us = used_arcs net.places (Inside k) rs in
+    let rest = arcs_of (map road_of rs) in
+    elim (is_open r.mark) as (λ t.
+      cond (t && (a && b)) (there ∷ back ∷ us) us ≡ filter (runs_inside net k) (cond t (there ∷ back ∷ rest) rest)) [
+      | true ↦ both_or_none a b there back us (filter (runs_inside net k) rest) (inside net k rs)
+      | false ↦ inside net k rs
+    ]
+
 -- the arcs that a search uses are those in its scope
 pub used_are_in_scope :
-    (net : Network) (scope : Scope) (roads : List Road) → net.roads ≡ map road_of roads → used_arcs net.places scope roads ≡ scope_arcs net scope
-used_are_in_scope net scope roads e = elim scope as (λ c. used_arcs net.places c roads ≡ scope_arcs net c) [
-    | Everywhere ↦ everywhere roads ∙ ap arcs_of (sym e)
-    | Inside k ↦ inside k roads ∙ ap (λ l. filter (runs_inside net k) (arcs_of l)) (sym e)
-  ]
-  where
-    everywhere : (rs : List Road) → used_arcs net.places Everywhere rs ≡ arcs_of (map road_of rs)
-    everywhere [] = refl
+    (net : Network) (scope : Scope) (rs : List Road) → net.roads ≡ map road_of rs → used_arcs net.places scope rs ≡ scope_arcs net scope
+used_are_in_scope net Everywhere rs e = everywhere net.places rs ∙ ap arcs_of (sym e)
+used_are_in_scope net (Inside k) rs e = inside net k rs ∙ ap (λ l. filter (runs_inside net k) (arcs_of l)) (sym e)
+
+-- what is in the scope is an arc of the network
+pub scope_is_in : (net : Network) (scope : Scope) (a : Arc) → In a (scope_arcs net scope) → In a (arcs net)
+scope_is_in net Everywhere a i = i
+scope_is_in net (Inside k) a i = (inner_is_in net k a i).0
+
+module _ (s : Scale) (laws : Laws s) (offers : List ℕ) where
+  -- once they are counted, the words are values, and offer the same
+  counted_are_values : (i : ℕ) → get_or (map (counts s) offers) i s.none ≡ counts s (get_or offers i s.none)
+  counted_are_values i =
+      subst (λ d. get_or (map (counts s) offers) i d ≡ counts s (get_or offers i s.none))
+      (value_counts_as_itself s laws s.none laws.none_is_a_value) (get_or-map (counts s) offers i s.none)
+
+  counted_offer : (u : ℕ) → offer s (map (counts s) offers) u ≡ offer s offers u
+  counted_offer u =
+      ap (counts s) (counted_are_values (u - 1)) ∙ value_counts_as_itself s laws (offer s offers u) (offer_is_a_value s laws offers u)
+
+  module _ (net : Network) (arcs : List Arc) (ends : Between s laws net arcs) (worths : (a : Arc) → In a arcs → Value s a.worth) where
+    -- none, or what an offer comes to
+    abbrev Comes : ℕ → ℕ → Type 0
+    Comes v x = (x ≡ s.none) ⊎ GoneOn s net arcs offers v x
+
+    gone_on_from_home : (v : ℕ) → Junction net v → Comes v (offer s (map (counts s) offers) v)
+    gone_on_from_home v j =
+        inr (v, j, ([], refl, start_changes_nothing_behind s laws (offer s offers v) (offer_is_a_value s laws offers v) ∙ sym (counted_offer v)))
+
+    gone_on_further : (a : Arc) → In a arcs → (x : ℕ) → Value s x → Comes a.from x → Comes a.to (s.join (counts s a.worth) x)
+    gone_on_further a i x vx (inl e) =
+        inl (ap (s.join (counts s a.worth)) e ∙ none_stays_none_behind s laws (counts s a.worth) (count_is_a_value s laws a.worth))
+    gone_on_further a i x vx (inr (u, j, (w, h, e))) =
+        let o = offer s offers u in
+        let vo = offer_is_a_value s laws offers u in
+        let y = walk_value s w in
+        let vy = walk_value_is_a_value s laws arcs worths u a.from w h in
+        let va = worths a i in
+        let value =
+        ap (s.join o) (value_of_walks_joined s laws arcs worths u a.from a.to w (a ∷ []) h (i, refl, refl)
+        ∙ ap (s.join y) (value_of_one_arc s laws arcs worths a i))
+        ∙ sym (laws.join_is_associative o y a.worth vo vy va)
+        ∙ ap (λ z. s.join z a.worth) e
+        ∙ laws.join_is_commutative x a.worth vx va
+        ∙ ap (λ z. s.join z x) (sym (value_counts_as_itself s laws a.worth va)) in
+        inr (u, j, (w ++ (a ∷ []), walks_join arcs u a.from a.to w (a ∷ []) h (i, refl, refl), value))
+
+    -- enough sweeps leave the best
+    pub sweeps_leave_the_best :
+        (all : List ℕ) → ((a : Arc) → In a arcs → In a.from all × In a.to all) → length offers ≡ net.junctions
+        → (n : ℕ) → length all ≤ n → (v : ℕ) → Junction net v
+        → NoneBetter s (GoneOn s net arcs offers v) (offer s (after_sweeps s arcs n (map (counts s) offers)) v)
+    sweeps_leave_the_best all within size n enough v j =
+        let words = map (counts s) offers in
+        let there = length-map offers (counts s) ∙ size in
+        let after = offer s (after_sweeps s arcs n words) v in
+        let best : (y : ℕ) → GoneOn s net arcs offers v y → NoWorse s after y =
+        λ y (u, k, (w, h, e)).
+        let o = offer s offers u in
+        let vo = offer_is_a_value s laws offers u in
+        let q = few_arcs_suffice s laws arcs worths all within u v w h in
+        let vq = walk_value_is_a_value s laws arcs worths u v q.0 q.1 in
+        let vw = walk_value_is_a_value s laws arcs worths u v w h in
+        subst (NoWorse s after) e
+        (laws.order_is_transitive after (s.join o (walk_value s q.0)) (s.join o (walk_value s w))
+        (offer_is_a_value s laws (after_sweeps s arcs n words) v)
+        (laws.join_is_a_value o (walk_value s q.0) vo vq) (laws.join_is_a_value o (walk_value s w) vo vw)
+        (subst (λ z. NoWorse s after (s.join z (walk_value s q.0))) (counted_offer u)
+        (every_walk_is_taken s laws net arcs ends worths n words there u v q.0 (omega (arith, q.3)) q.1))
+        (join_keeps_the_order_behind s laws (walk_value s q.0) (walk_value s w) o vq vw vo q.2)) in
+        (have_after_sweeps s laws net arcs ends Comes n words there gone_on_further gone_on_from_home v j, best)
+
+    -- and each word is what its junction then offers
+    pub sweeps_leave_values :
+        length offers ≡ net.junctions → (n v : ℕ) → Junction net v
+        → get_or (after_sweeps s arcs n (map (counts s) offers)) (v - 1) 0 ≡ offer s (after_sweeps s arcs n (map (counts s) offers)) v
+    sweeps_leave_values size n v (low, high) =
+        let words = map (counts s) offers in
+        let after = after_sweeps s arcs n words in
+        let there = length-map offers (counts s) ∙ size in
+        let long : v - 1 < length after = omega (arith, length_after_sweeps s arcs n words ∙ there) in
+        let counted : (i : ℕ) → Value s (get_or words i s.none) =
+        λ i. subst (Value s) (sym (counted_are_values i)) (count_is_a_value s laws (get_or offers i s.none)) in
+        get_or_default after (v - 1) 0 s.none long
+        ∙ sym (value_counts_as_itself s laws (get_or after (v - 1) s.none)
+        (values_after_sweeps s laws net arcs ends n words there counted (v - 1)))
+
+-- as many sweeps as there are words leave the best
+pub search_leaves_the_best :
+    (s : Scale) → Laws s → (d : Rest) (junctions : List JunctionEntry) (roads : List Road) (scope : Scope) (offers : List ℕ)
+    → LeavesTheBest s d junctions roads scope offers
+    (after_sweeps s (used_arcs (places_in (take d.junctions junctions)) scope (take d.roads roads)) (length (map (counts s) offers)) (map (counts s) offers))
+search_leaves_the_best s laws d junctions roads scope offers ok v j =
+    let net = network_of d junctions roads in
+    let used = used_are_in_scope net scope (take d.roads roads) refl in
+    let arcs_in = scope_arcs net scope in
+    let ends : Between s laws net arcs_in = λ a i. arc_ends_are_junctions s net ok.sound a (scope_is_in net scope a i) in
+    let worths : (a : Arc) → In a arcs_in → Value s a.worth = λ a i. arc_worths_are_values s laws net ok.sound a (scope_is_in net scope a i) in
+    let all = count_up 1 net.junctions in
+    let n = length (map (counts s) offers) in
+    let enough : length all ≤ n =
+    omega (arith, length_count_up 1 net.junctions, length-map offers (counts s), ok.a_word_for_each_junction) in
+    subst (λ l. NoneBetter s (GoneOn s net arcs_in offers v) (get_or (after_sweeps s l n (map (counts s) offers)) (v - 1) 0)) (sym used)
+    (subst (NoneBetter s (GoneOn s net arcs_in offers v))
+    (sym (sweeps_leave_values s laws offers net arcs_in ends worths ok.a_word_for_each_junction n v j))
+    (sweeps_leave_the_best s laws offers net arcs_in ends worths all (λ a i. arc_ends_are_counted s net ok.sound a (scope_is_in net scope a i)) ok.a_word_for_each_junction n enough v j))
