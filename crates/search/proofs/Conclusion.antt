@@ -1,10 +1,10 @@
 -- Sweeps over the arcs in a search's scope leave the best. Assumes nothing.
-use Rattle.std.proofs.Common.{◌≡◌, ℕ, ◌-◌, ◌<◌, ◌≤◌, Bool, true, false, cond, ◌&&◌, eqb, ◌⊎◌, List, [], ◌∷◌, ◌++◌, map, length, get_or, take, filter, sym, refl, ap, ◌∙◌, subst, inl, inr, ⊎_elim, arith}
+use Rattle.std.proofs.Common.{◌≡◌, ℕ, ◌-◌, ◌<◌, ◌≤◌, Bool, true, false, cond, ◌&&◌, eqb, ◌⊎◌, List, [], ◌∷◌, ◌++◌, map, length, get_or, take, filter, sym, refl, ap, ◌∙◌, subst, inl, inr, arith}
 use Rattle.std.proofs.lemmas.List.{get_or_default, length-map}
 use Rattle.std.proofs.Math.ListN.{get_or-map}
 use Rattle.measure.specs.Scale.{Scale, Value, Laws, NoWorse, counts}
 use Rattle.network.specs.Lists.{In, count_up}
-use Rattle.network.specs.Walks.{Arc, arc, Walk, walk_value}
+use Rattle.network.specs.Walks.{Arc, arc, walk_value}
 use Rattle.network.specs.Networks.{Network, Junction, district, arcs_of, arcs}
 use Rattle.network.specs.Rows.{runs_inside}
 use Rattle.network.proofs.Order.{start_changes_nothing_behind, none_stays_none_behind, join_keeps_the_order_behind}
@@ -19,7 +19,7 @@ use Rattle.drawing.specs.declared.tables.Junction.{Junction as JunctionEntry}
 use Rattle.drawing.specs.declared.tables.Road.{Road}
 use Rattle.search.specs.declared.scope.Scope.{Scope}
 use Rattle.search.specs.declared.scope.Scope.TheVariants.{Everywhere, Inside}
-use Rattle.search.specs.Searching.{scope_arcs, offer, GoneOn, NoneBetter, Searchable, LeavesTheBest}
+use Rattle.search.specs.Searching.{scope_arcs, offer, GoneOn, NoneBetter, LeavesTheBest}
 use Rattle.search.specs.Sweeps.{used_arcs, after_sweeps}
 use Rattle.search.proofs.Improving.{count_is_a_value, value_counts_as_itself, offer_is_a_value, length_after_sweeps, Between, values_after_sweeps, have_after_sweeps, every_walk_is_taken}
 
@@ -38,8 +38,8 @@ everywhere places (r ∷ rs) =
     let there = arc r.first r.second r.value in
     let back = arc r.second r.first r.value in
     elim (is_open r.mark) as (λ t.
-      cond (t && true) (there ∷ back ∷ used_arcs places Everywhere rs) (used_arcs places Everywhere rs)
-      ≡ cond t (there ∷ back ∷ arcs_of (map road_of rs)) (arcs_of (map road_of rs))) [
+    cond (t && true) (there ∷ back ∷ used_arcs places Everywhere rs) (used_arcs places Everywhere rs)
+    ≡ cond t (there ∷ back ∷ arcs_of (map road_of rs)) (arcs_of (map road_of rs))) [
       | true ↦ ap (λ l. there ∷ back ∷ l) (everywhere places rs)
       | false ↦ everywhere places rs
     ]
@@ -54,7 +54,7 @@ inside net k (r ∷ rs) =
     let us = used_arcs net.places (Inside k) rs in
     let rest = arcs_of (map road_of rs) in
     elim (is_open r.mark) as (λ t.
-      cond (t && (a && b)) (there ∷ back ∷ us) us ≡ filter (runs_inside net k) (cond t (there ∷ back ∷ rest) rest)) [
+    cond (t && (a && b)) (there ∷ back ∷ us) us ≡ filter (runs_inside net k) (cond t (there ∷ back ∷ rest) rest)) [
       | true ↦ both_or_none a b there back us (filter (runs_inside net k) rest) (inside net k rs)
       | false ↦ inside net k rs
     ]

@@ -172,10 +172,10 @@ module _ (s : Scale) (laws : Laws s) where
       have_after_arc values a from to size hand have v j =
           ⊎_elim (λ e. subst (P v) (sym e) (have v j))
           (λ q.
-            let here : a.to ≡ v = omega (arith, q.0, to.0, j.0) in
-            subst (P v) (sym q.1)
-            (subst (λ t. P t (brought s values a)) here
-            (hand (offer s values a.from) (offer_is_a_value values a.from) (have a.from from))))
+          let here : a.to ≡ v = omega (arith, q.0, to.0, j.0) in
+          subst (P v) (sym q.1)
+          (subst (λ t. P t (brought s values a)) here
+          (hand (offer s values a.from) (offer_is_a_value values a.from) (have a.from from))))
           (arc_invents_nothing values a (is_there values size a.to to) v)
 
       pub have_after_arcs :

@@ -31,14 +31,14 @@ fn write(values: &mut [u64], junction: u64, word: u64)
 }
 
 // Improves the word of a junction by an arc that leads there, and says whether it does.
-fn improve<M: Measure>(values: &mut [u64], first: u64, second: u64, value: u64) -> bool
-    ensures written { values.new ≡ after_arc M.Measure.scale values.old (arc first second value) }
+fn improve<M: Measure>(values: &mut [u64], from: u64, to: u64, value: u64) -> bool
+    ensures written { values.new ≡ after_arc M.Measure.scale values.old (arc from to value) }
     ensures told { result ≡ false → values.new ≡ values.old }
 {
-    let brought = M::join(value, word_of::<M>(values, first));
-    let improves = M::better(brought, word_of::<M>(values, second));
+    let brought = M::join(value, word_of::<M>(values, from));
+    let improves = M::better(brought, word_of::<M>(values, to));
     if improves {
-        write(values, second, brought);
+        write(values, to, brought);
     }
     improves
 }

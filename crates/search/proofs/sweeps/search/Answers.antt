@@ -1,7 +1,5 @@
-use Rattle.std.proofs.Common.{◌≡◌, ℕ, ◌-◌, List, map, length, take, sym, ap, ap₂, ◌∙◌, subst, arith}
+use Rattle.std.proofs.Common.{◌≡◌, ℕ, ◌-◌, List, length, take, sym, ap, ap₂, ◌∙◌, subst, arith}
 use Rattle.std.specs.List.{slice_range}
-use Rattle.std.proofs.lemmas.Grind.{common_steps}
-use Rattle.measure.specs.Scale.{counts}
 use Rattle.network.specs.Walks.{Arc}
 use Rattle.drawing.specs.Borders.{places_in}
 use Rattle.drawing.specs.declared.tables.Junction.{Junction}
