@@ -1,5 +1,5 @@
 -- Sweeps over the arcs in a search's scope leave the best. Assumes nothing.
-use Rattle.std.proofs.Common.{◌≡◌, ℕ, ◌-◌, ◌<◌, ◌≤◌, Bool, true, false, cond, ◌&&◌, eqb, ◌⊎◌, List, [], ◌∷◌, ◌++◌, map, length, get_or, take, filter, sym, refl, ap, ◌∙◌, subst, inl, inr, arith}
+use Rattle.std.proofs.Common.{◌≡◌, ℕ, ◌-◌, ◌<◌, ◌≤◌, Bool, true, false, cond, ◌&&◌, eqb, ◌⊎◌, List, [], ◌∷◌, ◌++◌, map, length, get_or, take, filter, sym, refl, ap, ◌∙◌, subst, ap₂, inl, inr, arith}
 use Rattle.std.proofs.lemmas.List.{get_or_default, length-map}
 use Rattle.std.proofs.Math.ListN.{get_or-map}
 use Rattle.measure.specs.Scale.{Scale, Value, Laws, NoWorse, counts}
@@ -149,11 +149,11 @@ module _ (s : Scale) (laws : Laws s) (offers : List ℕ) where
         (values_after_sweeps s laws net arcs ends n words there counted (v - 1)))
 
 -- as many sweeps as there are words leave the best
-pub search_leaves_the_best :
+enough_sweeps_leave_the_best :
     (s : Scale) → Laws s → (d : Rest) (junctions : List JunctionEntry) (roads : List Road) (scope : Scope) (offers : List ℕ)
     → LeavesTheBest s d junctions roads scope offers
     (after_sweeps s (used_arcs (places_in (take d.junctions junctions)) scope (take d.roads roads)) (length (map (counts s) offers)) (map (counts s) offers))
-search_leaves_the_best s laws d junctions roads scope offers ok v j =
+enough_sweeps_leave_the_best s laws d junctions roads scope offers ok v j =
     let net = network_of d junctions roads in
     let used = used_are_in_scope net scope (take d.roads roads) refl in
     let arcs_in = scope_arcs net scope in
@@ -167,3 +167,16 @@ search_leaves_the_best s laws d junctions roads scope offers ok v j =
     (subst (NoneBetter s (GoneOn s net arcs_in offers v))
     (sym (sweeps_leave_values s laws offers net arcs_in ends worths ok.a_word_for_each_junction n v j))
     (sweeps_leave_the_best s laws offers net arcs_in ends worths all (λ a i. arc_ends_are_counted s net ok.sound a (scope_is_in net scope a i)) ok.a_word_for_each_junction n enough v j))
+
+-- and so does what ends there, from the used parts of the tables
+pub search_leaves_the_best :
+    (s : Scale) → Laws s → (d : Rest) (junctions : List JunctionEntry) (roads : List Road) (scope : Scope) (offers : List ℕ)
+    → (js : List JunctionEntry) (rs : List Road) (words after : List ℕ)
+    → js ≡ take d.junctions junctions → rs ≡ take d.roads roads → words ≡ map (counts s) offers
+    → after ≡ after_sweeps s (used_arcs (places_in js) scope rs) (length words) words
+    → LeavesTheBest s d junctions roads scope offers after
+search_leaves_the_best s laws d junctions roads scope offers js rs words after j r w e =
+    let arcs_alike = ap₂ (λ (x : List JunctionEntry) (y : List Road). used_arcs (places_in x) scope y) j r in
+    let words_alike = ap₂ (λ (x : List Arc) (l : List ℕ). after_sweeps s x (length l) l) arcs_alike w in
+    subst (LeavesTheBest s d junctions roads scope offers) (sym (e ∙ words_alike))
+    (enough_sweeps_leave_the_best s laws d junctions roads scope offers)

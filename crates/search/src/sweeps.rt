@@ -30,7 +30,7 @@ fn write(values: &mut [u64], junction: u64, word: u64)
     }
 }
 
-// Improves the word of a junction by an arc that leads there, and says whether it does.
+// Improves the word of a junction by an arc that leads there, and says whether what the arc brings is better.
 fn improve<M: Measure>(values: &mut [u64], from: u64, to: u64, value: u64) -> bool
     ensures written { values.new ≡ after_arc M.Measure.scale values.old (arc from to value) }
     ensures told { result ≡ false → values.new ≡ values.old }
@@ -43,8 +43,8 @@ fn improve<M: Measure>(values: &mut [u64], from: u64, to: u64, value: u64) -> bo
     improves
 }
 
-// Leaves what each word counts as.
-fn count<M: Measure>(values: &mut [u64])
+// Leaves what each word counts as: itself, or none if it is no value of the measure.
+fn make_values<M: Measure>(values: &mut [u64])
     ensures { values.new ≡ map (counts M.Measure.scale) values.old }
 {
     for word in values.iter_mut() {
@@ -137,7 +137,7 @@ pub fn search<M: Measure>(
     let Some(roads) = roads.get(..drawing.roads() as usize) else {
         return;
     };
-    count::<M>(values);
+    make_values::<M>(values);
     let searched = Searched {
         junctions,
         roads,

@@ -2,7 +2,7 @@ use Rattle.std.proofs.Common.{◌<◌, length, get_or, set, ap, ◌∙◌, arith
 use Rattle.std.proofs.lemmas.List.{get_or_default}
 use Rattle.std.proofs.lemmas.List.Edits.{map_over_more}
 use Rattle.measure.specs.Scale.{counts}
-use Rattle.search.proofs.sweeps.count.Goals as goal
+use Rattle.search.proofs.sweeps.make_values.Goals as goal
 
 pub loop-word-preserved : goal.loop-word-preserved
 loop-word-preserved g c =

@@ -1,6 +1,6 @@
 use Rattle.std.proofs.Common.{◌≡◌, ◌++◌, map, take, drop}
 use Rattle.measure.specs.Scale.{counts}
-use Rattle.search.proofs.sweeps.count.Given as goal
+use Rattle.search.proofs.sweeps.make_values.Given as goal
 
 -- the words so far are counted, and those to come are as they were
 abbrev pub invariant-loop-word : goal.invariant-loop-word
