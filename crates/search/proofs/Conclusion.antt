@@ -1,6 +1,7 @@
 -- Sweeps over the arcs in a search's scope leave the best. Assumes nothing.
-use Rattle.std.proofs.Common.{◌≡◌, ℕ, ◌-◌, ◌<◌, ◌≤◌, Bool, true, false, cond, ◌&&◌, eqb, ◌⊎◌, List, [], ◌∷◌, ◌++◌, map, length, get_or, take, filter, sym, refl, ap, ◌∙◌, subst, ap₂, inl, inr, arith}
-use Rattle.std.proofs.lemmas.List.{get_or_default, length-map}
+use Rattle.std.proofs.Common.{◌≡◌, ℕ, ◌-◌, ◌<◌, ◌≤◌, Bool, true, false, cond, ◌&&◌, eqb, ◌⊎◌, List, [], ◌∷◌, ◌++◌, map, length, get_or, take, filter, reverse, sym, refl, ap, ◌∙◌, subst, ap₂, inl, inr, ⊎_elim, arith}
+use Rattle.std.proofs.lemmas.List.{get_or_default, length-map, reverse-append}
+use Rattle.std.proofs.lemmas.Bool.{cond_both}
 use Rattle.std.proofs.Math.ListN.{get_or-map}
 use Rattle.measure.specs.Scale.{Scale, Value, Laws, NoWorse, counts}
 use Rattle.network.specs.Lists.{In, count_up}
@@ -8,8 +9,8 @@ use Rattle.network.specs.Walks.{Arc, arc, walk_value}
 use Rattle.network.specs.Networks.{Network, Junction, district, arcs_of, arcs}
 use Rattle.network.specs.Rows.{runs_inside}
 use Rattle.network.proofs.Order.{start_changes_nothing_behind, none_stays_none_behind, join_keeps_the_order_behind}
-use Rattle.network.proofs.Lists.{length_count_up}
-use Rattle.network.proofs.Walks.{walk_value_is_a_value, walks_join, value_of_walks_joined, value_of_one_arc}
+use Rattle.network.proofs.Lists.{length_count_up, in_append_left, in_append_cases}
+use Rattle.network.proofs.Walks.{walk_value_is_a_value, walk_of_more_arcs, walks_join, value_of_walks_joined, value_of_one_arc}
 use Rattle.network.proofs.FewArcs.{few_arcs_suffice}
 use Rattle.network.proofs.NetworkArcs.{arc_ends_are_junctions, arc_ends_are_counted, arc_worths_are_values}
 use Rattle.network.proofs.DistrictArcs.{inner_is_in}
@@ -20,7 +21,7 @@ use Rattle.drawing.specs.declared.tables.Road.{Road}
 use Rattle.search.specs.declared.scope.Scope.{Scope}
 use Rattle.search.specs.declared.scope.Scope.TheVariants.{Everywhere, Inside}
 use Rattle.search.specs.Searching.{scope_arcs, offer, GoneOn, NoneBetter, LeavesTheBest}
-use Rattle.search.specs.Sweeps.{used_arcs, after_sweeps}
+use Rattle.search.specs.Sweeps.{is_used, used_arcs, there_and_back, after_sweeps}
 use Rattle.search.proofs.Improving.{count_is_a_value, value_counts_as_itself, offer_is_a_value, length_after_sweeps, Between, values_after_sweeps, have_after_sweeps, every_walk_is_taken}
 
 -- the arcs of a road, those both inside a district or both not
@@ -59,14 +60,76 @@ inside net k (r ∷ rs) =
       | false ↦ inside net k rs
     ]
 
--- the arcs that a search uses are those in its scope
-pub used_are_in_scope :
+-- the arcs of the roads in a search's scope, once for each road, are those in its scope
+used_are_in_scope :
     (net : Network) (scope : Scope) (rs : List Road) → net.roads ≡ map road_of rs → used_arcs net.places scope rs ≡ scope_arcs net scope
 used_are_in_scope net Everywhere rs e = everywhere net.places rs ∙ ap arcs_of (sym e)
 used_are_in_scope net (Inside k) rs e = inside net k rs ∙ ap (λ l. filter (runs_inside net k) (arcs_of l)) (sym e)
 
+-- the two arcs of a road
+abbrev there : Road → Arc
+there r = arc r.first r.second r.value
+
+abbrev back : Road → Arc
+back r = arc r.second r.first r.value
+
+-- the arc is one of a road of the list, and the search may use that road
+abbrev ComesOf : List ℕ → Scope → List Road → Arc → Type 0
+ComesOf places scope rs a = (r : Road) × In r rs × (is_used places scope r ≡ true) × ((a ≡ there r) ⊎ (a ≡ back r))
+
+used_comes_of_a_road : (places : List ℕ) (scope : Scope) (a : Arc) (rs : List Road) → In a (used_arcs places scope rs) → ComesOf places scope rs a
+used_comes_of_a_road places scope a [] i = absurd i
+used_comes_of_a_road places scope a (r ∷ rs) i =
+    let later : In a (used_arcs places scope rs) → ComesOf places scope (r ∷ rs) a =
+    λ j. let q = used_comes_of_a_road places scope a rs j in (q.0, inr q.1, q.2, q.3) in
+    cond_both (is_used places scope r) (there r ∷ back r ∷ used_arcs places scope rs) (used_arcs places scope rs)
+    (λ l. In a l → ComesOf places scope (r ∷ rs) a)
+    (λ t. ⊎_elim (λ e. (r, inl refl, t, inl e)) (⊎_elim (λ e. (r, inl refl, t, inr e)) later)) (λ t. later) i
+
+used_road_has_arcs :
+    (places : List ℕ) (scope : Scope) (r : Road) (rs : List Road) → In r rs → is_used places scope r ≡ true
+    → In (there r) (used_arcs places scope rs) × In (back r) (used_arcs places scope rs)
+used_road_has_arcs places scope r [] i t = absurd i
+used_road_has_arcs places scope r (q ∷ rs) (inl e) t =
+    rw (subst (λ x. is_used places scope x ≡ true) e t) (inl (ap there e), inr (inl (ap back e)))
+used_road_has_arcs places scope r (q ∷ rs) (inr i) t =
+    let h = used_road_has_arcs places scope r rs i t in
+    cond_both (is_used places scope q) (there q ∷ back q ∷ used_arcs places scope rs) (used_arcs places scope rs)
+    (λ l. In (there r) l × In (back r) l) (λ u. (inr (inr h.0), inr (inr h.1))) (λ u. h)
+
+-- more roads, more arcs
+used_of_more_roads :
+    (places : List ℕ) (scope : Scope) (less more : List Road) → ((r : Road) → In r less → In r more)
+    → (a : Arc) → In a (used_arcs places scope less) → In a (used_arcs places scope more)
+used_of_more_roads places scope less more all a i =
+    let q = used_comes_of_a_road places scope a less i in
+    let both = used_road_has_arcs places scope q.0 more (all q.0 q.1) q.2 in
+    ⊎_elim (λ e. subst (λ b. In b (used_arcs places scope more)) (sym e) both.0)
+    (λ e. subst (λ b. In b (used_arcs places scope more)) (sym e) both.1) q.3
+
+in_reverse : (r : Road) (rs : List Road) → In r (reverse rs) → In r rs
+in_reverse r [] i = i
+in_reverse r (q ∷ rs) i =
+    ⊎_elim (λ j. inr (in_reverse r rs j)) (⊎_elim (λ e. inl e) (λ n. absurd n)) (in_append_cases r (reverse rs) (q ∷ []) (subst (In r) (reverse-append (q ∷ []) rs) i))
+
+-- a sweep goes over the arcs in scope, and over no others
+module _ (net : Network) (scope : Scope) (rs : List Road) (same : net.roads ≡ map road_of rs) where
+  abbrev pub swept : List Arc
+  swept = used_arcs net.places scope (there_and_back rs)
+
+  pub swept_is_in_scope : (a : Arc) → In a swept → In a (scope_arcs net scope)
+  swept_is_in_scope a i =
+      subst (In a) (used_are_in_scope net scope rs same)
+      (used_of_more_roads net.places scope (there_and_back rs) rs
+      (λ r j. ⊎_elim (λ h. h) (λ h. in_reverse r rs h) (in_append_cases r rs (reverse rs) j)) a i)
+
+  pub scope_is_swept : (a : Arc) → In a (scope_arcs net scope) → In a swept
+  scope_is_swept a i =
+      used_of_more_roads net.places scope rs (there_and_back rs) (λ r j. in_append_left r rs (reverse rs) j) a
+      (subst (In a) (sym (used_are_in_scope net scope rs same)) i)
+
 -- what is in the scope is an arc of the network
-pub scope_is_in : (net : Network) (scope : Scope) (a : Arc) → In a (scope_arcs net scope) → In a (arcs net)
+scope_is_in : (net : Network) (scope : Scope) (a : Arc) → In a (scope_arcs net scope) → In a (arcs net)
 scope_is_in net Everywhere a i = i
 scope_is_in net (Inside k) a i = (inner_is_in net k a i).0
 
@@ -148,35 +211,46 @@ module _ (s : Scale) (laws : Laws s) (offers : List ℕ) where
         ∙ sym (value_counts_as_itself s laws (get_or after (v - 1) s.none)
         (values_after_sweeps s laws net arcs ends n words there counted (v - 1)))
 
+-- where the same arcs are walked, the same is best
+same_is_best :
+    (s : Scale) (net : Network) (some others : List Arc) (offers : List ℕ) (v x : ℕ)
+    → ((a : Arc) → In a some → In a others) → ((a : Arc) → In a others → In a some)
+    → NoneBetter s (GoneOn s net some offers v) x → NoneBetter s (GoneOn s net others offers v) x
+same_is_best s net some others offers v x all back (left, best) = (
+  ⊎_elim (λ e. inl e) (λ (u, j, (w, h, e)). inr (u, j, (w, walk_of_more_arcs some others all u v w h, e))) left,
+  λ y (u, j, (w, h, e)). best y (u, j, (w, walk_of_more_arcs others some back u v w h, e)),
+)
+
 -- as many sweeps as there are words leave the best
 enough_sweeps_leave_the_best :
     (s : Scale) → Laws s → (d : Rest) (junctions : List JunctionEntry) (roads : List Road) (scope : Scope) (offers : List ℕ)
     → LeavesTheBest s d junctions roads scope offers
-    (after_sweeps s (used_arcs (places_in (take d.junctions junctions)) scope (take d.roads roads)) (length (map (counts s) offers)) (map (counts s) offers))
+    (after_sweeps s (used_arcs (places_in (take d.junctions junctions)) scope (there_and_back (take d.roads roads)))
+    (length (map (counts s) offers)) (map (counts s) offers))
 enough_sweeps_leave_the_best s laws d junctions roads scope offers ok v j =
     let net = network_of d junctions roads in
-    let used = used_are_in_scope net scope (take d.roads roads) refl in
-    let arcs_in = scope_arcs net scope in
-    let ends : Between s laws net arcs_in = λ a i. arc_ends_are_junctions s net ok.sound a (scope_is_in net scope a i) in
-    let worths : (a : Arc) → In a arcs_in → Value s a.worth = λ a i. arc_worths_are_values s laws net ok.sound a (scope_is_in net scope a i) in
+    let rs = take d.roads roads in
+    let arcs_in = swept net scope rs refl in
+    let within : (a : Arc) → In a arcs_in → In a (arcs net) = λ a i. scope_is_in net scope a (swept_is_in_scope net scope rs refl a i) in
+    let ends : Between s laws net arcs_in = λ a i. arc_ends_are_junctions s net ok.sound a (within a i) in
+    let worths : (a : Arc) → In a arcs_in → Value s a.worth = λ a i. arc_worths_are_values s laws net ok.sound a (within a i) in
     let all = count_up 1 net.junctions in
+    let size = ok.a_word_for_each_junction in
     let n = length (map (counts s) offers) in
-    let enough : length all ≤ n =
-    omega (arith, length_count_up 1 net.junctions, length-map offers (counts s), ok.a_word_for_each_junction) in
-    subst (λ l. NoneBetter s (GoneOn s net arcs_in offers v) (get_or (after_sweeps s l n (map (counts s) offers)) (v - 1) 0)) (sym used)
-    (subst (NoneBetter s (GoneOn s net arcs_in offers v))
-    (sym (sweeps_leave_values s laws offers net arcs_in ends worths ok.a_word_for_each_junction n v j))
-    (sweeps_leave_the_best s laws offers net arcs_in ends worths all (λ a i. arc_ends_are_counted s net ok.sound a (scope_is_in net scope a i)) ok.a_word_for_each_junction n enough v j))
+    let enough : length all ≤ n = omega (arith, length_count_up 1 net.junctions, length-map offers (counts s), size) in
+    same_is_best s net arcs_in (scope_arcs net scope) offers v _ (swept_is_in_scope net scope rs refl) (scope_is_swept net scope rs refl)
+    (subst (NoneBetter s (GoneOn s net arcs_in offers v)) (sym (sweeps_leave_values s laws offers net arcs_in ends worths size n v j))
+    (sweeps_leave_the_best s laws offers net arcs_in ends worths all (λ a i. arc_ends_are_counted s net ok.sound a (within a i)) size n enough v j))
 
 -- and so does what ends there, from the used parts of the tables
 pub search_leaves_the_best :
     (s : Scale) → Laws s → (d : Rest) (junctions : List JunctionEntry) (roads : List Road) (scope : Scope) (offers : List ℕ)
     → (js : List JunctionEntry) (rs : List Road) (words after : List ℕ)
     → js ≡ take d.junctions junctions → rs ≡ take d.roads roads → words ≡ map (counts s) offers
-    → after ≡ after_sweeps s (used_arcs (places_in js) scope rs) (length words) words
+    → after ≡ after_sweeps s (used_arcs (places_in js) scope (there_and_back rs)) (length words) words
     → LeavesTheBest s d junctions roads scope offers after
 search_leaves_the_best s laws d junctions roads scope offers js rs words after j r w e =
-    let arcs_alike = ap₂ (λ (x : List JunctionEntry) (y : List Road). used_arcs (places_in x) scope y) j r in
+    let arcs_alike = ap₂ (λ (x : List JunctionEntry) (y : List Road). used_arcs (places_in x) scope (there_and_back y)) j r in
     let words_alike = ap₂ (λ (x : List Arc) (l : List ℕ). after_sweeps s x (length l) l) arcs_alike w in
     subst (LeavesTheBest s d junctions roads scope offers) (sym (e ∙ words_alike))
     (enough_sweeps_leave_the_best s laws d junctions roads scope offers)

@@ -1,5 +1,5 @@
 -- What a search does to its words, arc by arc and sweep by sweep. Assumes nothing.
-use Rattle.std.specs.Prelude.{ℕ, zero, suc, ◌-◌, Bool, true, cond, ◌&&◌, List, [], ◌∷◌, ◌==◌, slice_index, slice_set}
+use Rattle.std.specs.Prelude.{ℕ, zero, suc, ◌-◌, Bool, true, cond, ◌&&◌, List, [], ◌∷◌, ◌++◌, reverse, ◌==◌, slice_index, slice_set}
 use Rattle.measure.specs.Scale.{Scale, counts}
 use Rattle.network.specs.Walks.{Arc, arc}
 use Rattle.drawing.specs.Borders.{is_open}
@@ -24,6 +24,10 @@ used_arcs places scope [] = []
 used_arcs places scope (r ∷ rs) =
     cond (is_used places scope r)
     (arc r.first r.second r.value ∷ arc r.second r.first r.value ∷ used_arcs places scope rs) (used_arcs places scope rs)
+
+-- the roads as a sweep goes over them: from the first to the last, and back
+abbrev pub there_and_back : List Road → List Road
+there_and_back rs = rs ++ reverse rs
 
 -- what an arc brings to its far end: its value joined with what stands where it begins
 abbrev pub brought : Scale → List ℕ → Arc → ℕ

@@ -1,10 +1,10 @@
 // A search: sweeps over the roads, each of which improves what stands at its two ends, until a sweep changes nothing.
-ghost use Rattle.std.specs.Prelude.{◌≡◌, ◌-◌, false, [], ◌∷◌, map, length, slice_index, slice_index_or, slice_set};
+ghost use Rattle.std.specs.Prelude.{◌≡◌, ◌-◌, false, [], ◌∷◌, map, length, reverse, slice_index, slice_index_or, slice_set};
 ghost use Rattle.measure.specs.Scale.{counts};
 ghost use Rattle.network.specs.Walks.{arc};
 ghost use Rattle.drawing.specs.Borders.{places_in};
 ghost use Rattle.search.specs.Searching.{LeavesTheBest};
-ghost use Rattle.search.specs.Sweeps.{is_used, used_arcs, after_arc, after_arcs, after_sweeps};
+ghost use Rattle.search.specs.Sweeps.{is_used, used_arcs, there_and_back, after_arc, after_arcs, after_sweeps};
 
 use super::Scope;
 use drawing::{Junction, Mark, Rest, Road};
@@ -97,8 +97,8 @@ impl<'a> Searched<'a> {
         there || back
     }
 
-    // Improves the words at the ends of each road once, and says whether any changed.
-    fn sweep<M: Measure>(&self, values: &mut [u64]) -> bool
+    // Improves the words at the ends of each road, from the first to the last, and says whether any changed.
+    fn go_there<M: Measure>(&self, values: &mut [u64]) -> bool
         ensures written { values.new ≡ after_arcs M.Measure.scale values.old (used_arcs (places_in self.now.junctions.now) self.now.scope self.now.roads.now) }
         ensures told { result ≡ false → values.new ≡ values.old }
     {
@@ -109,9 +109,32 @@ impl<'a> Searched<'a> {
         changed
     }
 
+    // Improves the words at the ends of each road, from the last to the first, and says whether any changed.
+    fn go_back<M: Measure>(&self, values: &mut [u64]) -> bool
+        ensures written { values.new ≡ after_arcs M.Measure.scale values.old (used_arcs (places_in self.now.junctions.now) self.now.scope (reverse self.now.roads.now)) }
+        ensures told { result ≡ false → values.new ≡ values.old }
+    {
+        let mut changed = false;
+        for road in self.roads.iter().rev() {
+            changed |= self.improve_ends::<M>(road, values);
+        }
+        changed
+    }
+
+    // Goes over all roads, there and back, and says whether any word changed.
+    #[tactic(auto, using(crate::proofs::Turns::roads_and_others))]
+    fn sweep<M: Measure>(&self, values: &mut [u64]) -> bool
+        ensures written { values.new ≡ after_arcs M.Measure.scale values.old (used_arcs (places_in self.now.junctions.now) self.now.scope (there_and_back self.now.roads.now)) }
+        ensures told { result ≡ false → values.new ≡ values.old }
+    {
+        let there = self.go_there::<M>(values);
+        let back = self.go_back::<M>(values);
+        there || back
+    }
+
     // Sweeps until nothing changes, and at most as often as there are words: what more sweeps would leave is the same.
     fn settle<M: Measure>(&self, values: &mut [u64])
-        ensures { values.new ≡ after_sweeps M.Measure.scale (used_arcs (places_in self.now.junctions.now) self.now.scope self.now.roads.now) (length values.old) values.old }
+        ensures { values.new ≡ after_sweeps M.Measure.scale (used_arcs (places_in self.now.junctions.now) self.now.scope (there_and_back self.now.roads.now)) (length values.old) values.old }
     {
         for _ in 0..values.len() {
             if !self.sweep::<M>(values) {
