@@ -2,5 +2,7 @@
 #![tactic(auto)]
 
 mod scope;
+mod sweeps;
 
 pub use scope::Scope;
+pub use sweeps::search;
