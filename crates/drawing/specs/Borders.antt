@@ -7,7 +7,7 @@ use Rattle.drawing.specs.Edits.{size_check}
 use Rattle.drawing.specs.Outcomes.{Check, verdict, Ends}
 use Rattle.drawing.specs.declared.refusal.Refusal.{Refusal}
 use Rattle.drawing.specs.declared.rest.Rest.{Rest}
-use Rattle.drawing.specs.declared.borders.Used.{Used}
+use Rattle.drawing.specs.declared.used.Used.{Used}
 use Rattle.drawing.specs.declared.marks.Marks.{Marks}
 use Rattle.drawing.specs.Marked.{is_marked}
 use Rattle.drawing.specs.declared.tables.Junction.{Junction}

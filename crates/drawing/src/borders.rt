@@ -1,30 +1,13 @@
 // Finding the borders of a drawing.
-ghost use Rattle.std.specs.Prelude.{◌≡◌, ℕ, ◌-◌, ◌≤◌, ◌&&◌, ◌||◌, ◌==◌, map, slice_index};
+ghost use Rattle.std.specs.Prelude.{◌≡◌, ℕ, ◌≤◌, ◌&&◌, ◌||◌, ◌==◌, map};
 ghost use Rattle.network.specs.Networks.{Network, is_border};
 ghost use Rattle.drawing.specs.Marked.{is_marked};
-ghost use Rattle.drawing.specs.Borders.{road_of, places_in, road_crosses, UsesTheTables, MarksTheBorders, CountsTheBorders, ListsTheBorders};
+ghost use Rattle.drawing.specs.Borders.{road_of, places_in, road_crosses, MarksTheBorders, CountsTheBorders, ListsTheBorders};
 
 use super::tables::used;
-use super::{Junction, Mark, Marks, Refusal, Rest, Road};
-
-// The parts of the two tables that a drawing uses: an entry for each junction, and a record for each road added.
-#[derive(Clone, Copy)]
-struct Used<'a> {
-    junctions: &'a [Junction],
-    roads: &'a [Road],
-}
+use super::{Junction, Mark, Marks, Refusal, Rest, Road, Used};
 
 impl<'a> Used<'a> {
-    // The district of a junction. It is 0, and no `None`, where there is none: the definition of a border reads it so,
-    // and two ends outside would differ from one in district 0.
-    fn district_of(&self, v: u64) -> u64
-        ensures { result ≡ slice_index (places_in self.now.junctions.now) (v - 1) }
-    {
-        self.junctions
-            .get(v.saturating_sub(1) as usize)
-            .map_or(0, |junction| junction.district)
-    }
-
     // Whether a road is open and leads into another district.
     fn crosses(&self, road: &Road) -> bool
         ensures { result ≡ road_crosses (places_in self.now.junctions.now) road.now }
@@ -55,16 +38,6 @@ impl<'a> Used<'a> {
 }
 
 impl Rest {
-    // The parts of the tables that the drawing uses, where these are long enough.
-    fn used<'a>(&self, junctions: &'a [Junction], roads: &'a [Road]) -> Result<Used<'a>, Refusal>
-        ensures { UsesTheTables self.now junctions.now roads.now result }
-    {
-        Ok(Used {
-            junctions: used(junctions, self.junctions)?,
-            roads: used(roads, self.roads)?,
-        })
-    }
-
     // The marks of the drawing's borders.
     fn mark_borders(&self, junctions: &[Junction], roads: &[Road]) -> Result<Marks, Refusal>
         ensures { MarksTheBorders self.now junctions.now roads.now result }

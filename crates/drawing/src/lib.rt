@@ -7,9 +7,11 @@ mod marks;
 mod refusal;
 mod rest;
 mod tables;
+mod used;
 
 pub use edits::{MOST_DISTRICTS, MOST_JUNCTIONS, MOST_ROADS};
 pub use marks::Marks;
 pub use refusal::{Refusal, Table};
 pub use rest::Rest;
 pub use tables::{Junction, Mark, Road};
+pub use used::Used;
