@@ -7,7 +7,7 @@ ghost use Rattle.search.specs.Searching.{LeavesTheBest};
 ghost use Rattle.search.specs.Sweeps.{is_used, used_arcs, there_and_back, after_arc, after_arcs, after_sweeps};
 
 use super::Scope;
-use drawing::{Junction, Mark, Rest, Road};
+use drawing::{Junction, Mark, Rest, Road, Used};
 use measure::Measure;
 
 // The word of a junction; none where there is no word for it.
@@ -52,41 +52,31 @@ fn make_values<M: Measure>(values: &mut [u64])
     }
 }
 
-// What a search goes over: the entries of the junctions, the records of the roads, and its scope.
-#[derive(Clone, Copy)]
+// What a search goes over: the parts of the tables that the drawing uses, and its scope.
+#[derive(Clone, Copy, PartialEq, Eq, Debug)]
 struct Searched<'a> {
-    junctions: &'a [Junction],
-    roads: &'a [Road],
+    used: Used<'a>,
     scope: Scope,
 }
 
 impl<'a> Searched<'a> {
-    // The district of a junction; 0 where there is none.
-    fn district_of(&self, v: u64) -> u64
-        ensures { result ≡ slice_index (places_in self.now.junctions.now) (v - 1) }
-    {
-        match self.junctions.get(v.saturating_sub(1) as usize) {
-            Some(junction) => junction.district,
-            None => 0,
-        }
-    }
-
     // Whether the search may use a road: it is open, and lies in the scope.
     fn uses(&self, road: &Road) -> bool
-        ensures { result ≡ is_used (places_in self.now.junctions.now) self.now.scope road.now }
+        ensures { result ≡ is_used (places_in self.now.used.junctions.now) self.now.scope road.now }
     {
         road.mark == Mark::Open
             && match self.scope {
                 Scope::Everywhere => true,
                 Scope::Inside(k) => {
-                    self.district_of(road.first) == k && self.district_of(road.second) == k
+                    self.used.district_of(road.first) == k
+                        && self.used.district_of(road.second) == k
                 }
             }
     }
 
     // Improves the words at both ends of a road, and says whether any changed.
     fn improve_ends<M: Measure>(&self, road: &Road, values: &mut [u64]) -> bool
-        ensures written { values.new ≡ after_arcs M.Measure.scale values.old (used_arcs (places_in self.now.junctions.now) self.now.scope (road.now ∷ [])) }
+        ensures written { values.new ≡ after_arcs M.Measure.scale values.old (used_arcs (places_in self.now.used.junctions.now) self.now.scope (road.now ∷ [])) }
         ensures told { result ≡ false → values.new ≡ values.old }
     {
         if !self.uses(road) {
@@ -99,11 +89,11 @@ impl<'a> Searched<'a> {
 
     // Improves the words at the ends of each road, from the first to the last, and says whether any changed.
     fn go_there<M: Measure>(&self, values: &mut [u64]) -> bool
-        ensures written { values.new ≡ after_arcs M.Measure.scale values.old (used_arcs (places_in self.now.junctions.now) self.now.scope self.now.roads.now) }
+        ensures written { values.new ≡ after_arcs M.Measure.scale values.old (used_arcs (places_in self.now.used.junctions.now) self.now.scope self.now.used.roads.now) }
         ensures told { result ≡ false → values.new ≡ values.old }
     {
         let mut changed = false;
-        for road in self.roads {
+        for road in self.used.roads {
             changed |= self.improve_ends::<M>(road, values);
         }
         changed
@@ -111,11 +101,11 @@ impl<'a> Searched<'a> {
 
     // Improves the words at the ends of each road, from the last to the first, and says whether any changed.
     fn go_back<M: Measure>(&self, values: &mut [u64]) -> bool
-        ensures written { values.new ≡ after_arcs M.Measure.scale values.old (used_arcs (places_in self.now.junctions.now) self.now.scope (reverse self.now.roads.now)) }
+        ensures written { values.new ≡ after_arcs M.Measure.scale values.old (used_arcs (places_in self.now.used.junctions.now) self.now.scope (reverse self.now.used.roads.now)) }
         ensures told { result ≡ false → values.new ≡ values.old }
     {
         let mut changed = false;
-        for road in self.roads.iter().rev() {
+        for road in self.used.roads.iter().rev() {
             changed |= self.improve_ends::<M>(road, values);
         }
         changed
@@ -124,7 +114,7 @@ impl<'a> Searched<'a> {
     // Goes over all roads, there and back, and says whether any word changed.
     #[tactic(auto, using(crate::proofs::Turns::roads_and_others))]
     fn sweep<M: Measure>(&self, values: &mut [u64]) -> bool
-        ensures written { values.new ≡ after_arcs M.Measure.scale values.old (used_arcs (places_in self.now.junctions.now) self.now.scope (there_and_back self.now.roads.now)) }
+        ensures written { values.new ≡ after_arcs M.Measure.scale values.old (used_arcs (places_in self.now.used.junctions.now) self.now.scope (there_and_back self.now.used.roads.now)) }
         ensures told { result ≡ false → values.new ≡ values.old }
     {
         let there = self.go_there::<M>(values);
@@ -134,7 +124,7 @@ impl<'a> Searched<'a> {
 
     // Sweeps until nothing changes, and at most as often as there are words: what more sweeps would leave is the same.
     fn settle<M: Measure>(&self, values: &mut [u64])
-        ensures { values.new ≡ after_sweeps M.Measure.scale (used_arcs (places_in self.now.junctions.now) self.now.scope (there_and_back self.now.roads.now)) (length values.old) values.old }
+        ensures { values.new ≡ after_sweeps M.Measure.scale (used_arcs (places_in self.now.used.junctions.now) self.now.scope (there_and_back self.now.used.roads.now)) (length values.old) values.old }
     {
         for _ in 0..values.len() {
             if !self.sweep::<M>(values) {
@@ -154,17 +144,10 @@ pub fn search<M: Measure>(
 )
     ensures { LeavesTheBest M.Measure.scale drawing.now junctions.now roads.now scope values.old values.new }
 {
-    let Some(junctions) = junctions.get(..drawing.junctions() as usize) else {
-        return;
-    };
-    let Some(roads) = roads.get(..drawing.roads() as usize) else {
+    let Ok(used) = drawing.used(junctions, roads) else {
         return;
     };
     make_values::<M>(values);
-    let searched = Searched {
-        junctions,
-        roads,
-        scope,
-    };
+    let searched = Searched { used, scope };
     searched.settle::<M>(values);
 }

@@ -8,6 +8,6 @@ use Rattle.search.proofs.sweeps.Searched.go_there.Given as goal
 abbrev pub invariant-loop-road : goal.invariant-loop-road
 invariant-loop-road g l =
     let s = g.M.Measure.scale in
-    let arcs_from = λ (rs : List Road). used_arcs (places_in l.self.junctions.now) l.self.scope rs in
-    (after_arcs s l.values (arcs_from (drop l.road-index l.self.roads.now)) ≡ after_arcs s l.initial.values (arcs_from l.self.roads.now))
+    let arcs_from = λ (rs : List Road). used_arcs (places_in l.self.used.junctions.now) l.self.scope rs in
+    (after_arcs s l.values (arcs_from (drop l.road-index l.self.used.roads.now)) ≡ after_arcs s l.initial.values (arcs_from l.self.used.roads.now))
     × (l.changed ≡ false → l.values ≡ l.initial.values)

@@ -7,5 +7,5 @@ use Rattle.search.proofs.sweeps.Searched.settle.Given as goal
 abbrev pub invariant-loop : goal.invariant-loop
 invariant-loop g l =
     let s = g.M.Measure.scale in
-    let arcs = used_arcs (places_in l.self.junctions.now) l.self.scope (there_and_back l.self.roads.now) in
+    let arcs = used_arcs (places_in l.self.used.junctions.now) l.self.scope (there_and_back l.self.used.roads.now) in
     after_sweeps s arcs (l.end - l.counter) l.values ≡ after_sweeps s arcs (length l.initial.values) l.initial.values
