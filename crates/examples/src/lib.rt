@@ -12,6 +12,8 @@ mod measures;
 #[cfg(test)]
 mod rules;
 #[cfg(test)]
+mod searches;
+#[cfg(test)]
 mod six;
 #[cfg(test)]
 mod texts;

@@ -14,7 +14,7 @@ const ROADS: [(u64, u64, u64); 6] = [
     (5, 6, 400),
 ];
 
-fn draw(junctions: &mut [Junction], roads: &mut [Road]) -> Result<Rest, Refusal> {
+pub(super) fn draw(junctions: &mut [Junction], roads: &mut [Road]) -> Result<Rest, Refusal> {
     let mut drawing = Rest::start::<Metres>(6, 2, junctions)?;
     for (first, second, metres) in ROADS {
         drawing.add::<Metres>(roads, first, second, metres)?;
