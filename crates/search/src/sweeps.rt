@@ -99,7 +99,8 @@ impl<'a> Searched<'a> {
         changed
     }
 
-    // Improves the words at the ends of each road, from the last to the first, and says whether any changed.
+    // Improves the words at the ends of each road, from the last to the first, and says whether any changed. (A function of its own:
+    // one over any iterator would have to say what the iterator yields.)
     fn go_back<M: Measure>(&self, values: &mut [u64]) -> bool
         ensures written { values.new ≡ after_arcs M.Measure.scale values.old (used_arcs (places_in self.now.used.junctions.now) self.now.scope (reverse self.now.used.roads.now)) }
         ensures told { result ≡ false → values.new ≡ values.old }
