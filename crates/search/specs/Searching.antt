@@ -1,10 +1,12 @@
 -- What a search leaves at each junction: the best over offers that walks go on from. Assumes nothing.
-use Rattle.std.specs.Prelude.{◌≡◌, List, ◌⊎◌, ℕ, ◌-◌, ◌≤◌, length, get_or}
+use Rattle.std.specs.Prelude.{◌≡◌, List, Err, ◌⊎◌, ℕ, ◌-◌, ◌≤◌, length, get_or}
 use Rattle.measure.specs.Scale.{Scale, NoWorse, counts}
 use Rattle.network.specs.Walks.{Arc, Walk, walk_value}
 use Rattle.network.specs.Networks.{Network, Junction, Sound, arcs}
 use Rattle.network.specs.Rows.{inner_arcs}
-use Rattle.drawing.specs.Borders.{network_of}
+use Rattle.drawing.specs.Borders.{network_of, border_checks}
+use Rattle.drawing.specs.Outcomes.{verdict}
+use Rattle.drawing.specs.declared.refusal.Refusal.{Refusal}
 use Rattle.drawing.specs.declared.rest.Rest.{Rest}
 use Rattle.drawing.specs.declared.tables.Junction.{Junction as JunctionEntry}
 use Rattle.drawing.specs.declared.tables.Road.{Road}
@@ -44,3 +46,7 @@ LeavesTheBest s d junctions roads scope offers after =
     → (v : ℕ) → Junction (network_of d junctions roads) v
     → NoneBetter s (GoneOn s (network_of d junctions roads) (scope_arcs (network_of d junctions roads) scope) offers v)
     (get_or after (v - 1) 0)
+
+-- where a table is too short for the drawing, the words stay as they were
+abbrev pub StayWhereShort : Rest → List JunctionEntry → List Road → List ℕ → List ℕ → Type 0
+StayWhereShort d junctions roads offers after = (x : Refusal) → verdict (border_checks d junctions roads) ≡ Err x → after ≡ offers

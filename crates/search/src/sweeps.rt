@@ -3,7 +3,7 @@ ghost use Rattle.std.specs.Prelude.{◌≡◌, ◌-◌, false, [], ◌∷◌, ma
 ghost use Rattle.measure.specs.Scale.{counts};
 ghost use Rattle.network.specs.Walks.{arc};
 ghost use Rattle.drawing.specs.Borders.{places_in};
-ghost use Rattle.search.specs.Searching.{LeavesTheBest};
+ghost use Rattle.search.specs.Searching.{LeavesTheBest, StayWhereShort};
 ghost use Rattle.search.specs.Sweeps.{is_used, used_arcs, there_and_back, after_arc, after_arcs, after_sweeps};
 
 use super::Scope;
@@ -136,6 +136,7 @@ impl<'a> Searched<'a> {
 }
 
 // Leaves at each junction the best over an offer joined with a walk in the scope that goes on from there; none where no offer reaches.
+// Where a table is too short, the words stay.
 pub fn search<M: Measure>(
     drawing: &Rest,
     scope: Scope,
@@ -143,7 +144,8 @@ pub fn search<M: Measure>(
     roads: &[Road],
     values: &mut [u64],
 )
-    ensures { LeavesTheBest M.Measure.scale drawing.now junctions.now roads.now scope values.old values.new }
+    ensures best { LeavesTheBest M.Measure.scale drawing.now junctions.now roads.now scope values.old values.new }
+    ensures short { StayWhereShort drawing.now junctions.now roads.now values.old values.new }
 {
     let Ok(used) = drawing.used(junctions, roads) else {
         return;
