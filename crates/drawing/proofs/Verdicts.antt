@@ -1,8 +1,13 @@
 -- The verdict of two lists of checks, one after the other, and what a call's end says of its verdict. Assumes nothing.
-use Rattle.std.proofs.Common.{◌≡◌, ℕ, ◌≤◌, true, false, cond, List, [], ◌∷◌, ◌++◌, Ok, Err, Result, refl, arith}
+use Rattle.std.proofs.Common.{◌≡◌, ℕ, ◌≤◌, true, false, cond, List, [], ◌∷◌, ◌++◌, take, Ok, Err, Result, refl, arith}
 use Rattle.std.proofs.lemmas.Bool.{le-ltb}
 use Rattle.drawing.specs.Edits.{size_check}
+use Rattle.drawing.specs.Borders.{border_checks, UsesTheTables}
 use Rattle.drawing.specs.declared.refusal.Refusal.{Refusal}
+use Rattle.drawing.specs.declared.rest.Rest.{Rest}
+use Rattle.drawing.specs.declared.tables.Junction.{Junction}
+use Rattle.drawing.specs.declared.tables.Road.{Road}
+use Rattle.drawing.specs.declared.used.Used.{Used}
 use Rattle.drawing.specs.Outcomes.{Check, verdict, Ends}
 
 -- what the first list refuses is refused
@@ -38,3 +43,16 @@ refused_means (Err y) x same done h = let e = h.0 in (cc, h.1)
 -- a table that is long enough passes
 pub size_passes : (needed size : ℕ) → needed ≤ size → verdict (size_check needed size ∷ []) ≡ Ok tt
 size_passes needed size h = rw (le-ltb size needed h)
+
+-- what has been cut off of two tables: both were long enough, and it is their parts in use
+pub used_means :
+    (d : Rest) (junctions : List Junction) (roads : List Road) (u : Used) → UsesTheTables d junctions roads (Ok u)
+    → (verdict (border_checks d junctions roads) ≡ Ok tt) × ((u.junctions.now ≡ take d.junctions junctions) × (u.roads.now ≡ take d.roads roads))
+used_means d junctions roads u h =
+    accepted_means (verdict (border_checks d junctions roads)) u (Unit {0})
+    (λ x. (x.junctions.now ≡ take d.junctions junctions) × (x.roads.now ≡ take d.roads roads)) h
+
+-- a call that no check refuses is not refused
+pub accepted_or_refused : (v : Result Unit Refusal) (x : Refusal) → v ≡ Ok tt → v ≡ Err x → ⊥
+accepted_or_refused (Ok u) x a e = let z : ◌≡◌ {A = ℕ} 0 1 = cc in omega arith
+accepted_or_refused (Err y) x a e = let z : ◌≡◌ {A = ℕ} 0 1 = cc in omega arith

@@ -2,10 +2,11 @@
 use Rattle.std.specs.Prelude.{ℕ, zero, suc, ◌-◌, Bool, true, cond, ◌&&◌, List, [], ◌∷◌, ◌++◌, reverse, ◌==◌, slice_index, slice_set}
 use Rattle.measure.specs.Scale.{Scale, counts}
 use Rattle.network.specs.Walks.{Arc, arc}
-use Rattle.drawing.specs.Borders.{is_open}
+use Rattle.drawing.specs.Borders.{is_open, places_in}
 use Rattle.drawing.specs.declared.tables.Road.{Road}
 use Rattle.search.specs.declared.scope.Scope.{Scope}
 use Rattle.search.specs.declared.scope.Scope.TheVariants.{Everywhere, Inside}
+use Rattle.search.specs.declared.sweeps.Searched.{Searched}
 use Rattle.search.specs.Searching.{offer}
 
 -- whether both ends of a road lie in a search's scope, by the districts of the junctions
@@ -24,6 +25,10 @@ used_arcs places scope [] = []
 used_arcs places scope (r ∷ rs) =
     cond (is_used places scope r)
     (arc r.first r.second r.value ∷ arc r.second r.first r.value ∷ used_arcs places scope rs) (used_arcs places scope rs)
+
+-- the arcs that a search uses of these roads, by the districts and the scope of what it goes over
+abbrev pub arcs_over : Searched → List Road → List Arc
+arcs_over x rs = used_arcs (places_in x.used.junctions.now) x.scope rs
 
 -- the roads as a sweep goes over them: from the first to the last, and back
 abbrev pub there_and_back : List Road → List Road

@@ -4,7 +4,7 @@ ghost use Rattle.measure.specs.Scale.{counts};
 ghost use Rattle.network.specs.Walks.{arc};
 ghost use Rattle.drawing.specs.Borders.{places_in};
 ghost use Rattle.search.specs.Searching.{LeavesTheBest, StayWhereShort};
-ghost use Rattle.search.specs.Sweeps.{is_used, used_arcs, there_and_back, after_arc, after_arcs, after_sweeps};
+ghost use Rattle.search.specs.Sweeps.{is_used, arcs_over, there_and_back, after_arc, after_arcs, after_sweeps};
 
 use super::Scope;
 use drawing::{Junction, Mark, Rest, Road, Used};
@@ -76,7 +76,7 @@ impl<'a> Searched<'a> {
 
     // Improves the words at both ends of a road, and says whether any changed.
     fn improve_ends<M: Measure>(&self, road: &Road, values: &mut [u64]) -> bool
-        ensures written { values.new ≡ after_arcs M.Measure.scale values.old (used_arcs (places_in self.now.used.junctions.now) self.now.scope (road.now ∷ [])) }
+        ensures written { values.new ≡ after_arcs M.Measure.scale values.old (arcs_over self.now (road.now ∷ [])) }
         ensures told { result ≡ false → values.new ≡ values.old }
     {
         if !self.uses(road) {
@@ -89,7 +89,7 @@ impl<'a> Searched<'a> {
 
     // Improves the words at the ends of each road, from the first to the last, and says whether any changed.
     fn go_there<M: Measure>(&self, values: &mut [u64]) -> bool
-        ensures written { values.new ≡ after_arcs M.Measure.scale values.old (used_arcs (places_in self.now.used.junctions.now) self.now.scope self.now.used.roads.now) }
+        ensures written { values.new ≡ after_arcs M.Measure.scale values.old (arcs_over self.now self.now.used.roads.now) }
         ensures told { result ≡ false → values.new ≡ values.old }
     {
         let mut changed = false;
@@ -102,7 +102,7 @@ impl<'a> Searched<'a> {
     // Improves the words at the ends of each road, from the last to the first, and says whether any changed. (A function of its own:
     // one over any iterator would have to say what the iterator yields.)
     fn go_back<M: Measure>(&self, values: &mut [u64]) -> bool
-        ensures written { values.new ≡ after_arcs M.Measure.scale values.old (used_arcs (places_in self.now.used.junctions.now) self.now.scope (reverse self.now.used.roads.now)) }
+        ensures written { values.new ≡ after_arcs M.Measure.scale values.old (arcs_over self.now (reverse self.now.used.roads.now)) }
         ensures told { result ≡ false → values.new ≡ values.old }
     {
         let mut changed = false;
@@ -115,7 +115,7 @@ impl<'a> Searched<'a> {
     // Goes over all roads, there and back, and says whether any word changed.
     #[tactic(auto, using(crate::proofs::Turns::roads_and_others))]
     fn sweep<M: Measure>(&self, values: &mut [u64]) -> bool
-        ensures written { values.new ≡ after_arcs M.Measure.scale values.old (used_arcs (places_in self.now.used.junctions.now) self.now.scope (there_and_back self.now.used.roads.now)) }
+        ensures written { values.new ≡ after_arcs M.Measure.scale values.old (arcs_over self.now (there_and_back self.now.used.roads.now)) }
         ensures told { result ≡ false → values.new ≡ values.old }
     {
         let there = self.go_there::<M>(values);
@@ -125,7 +125,7 @@ impl<'a> Searched<'a> {
 
     // Sweeps until nothing changes, and at most as often as there are words: what more sweeps would leave is the same.
     fn settle<M: Measure>(&self, values: &mut [u64])
-        ensures { values.new ≡ after_sweeps M.Measure.scale (used_arcs (places_in self.now.used.junctions.now) self.now.scope (there_and_back self.now.used.roads.now)) (length values.old) values.old }
+        ensures { values.new ≡ after_sweeps M.Measure.scale (arcs_over self.now (there_and_back self.now.used.roads.now)) (length values.old) values.old }
     {
         for _ in 0..values.len() {
             if !self.sweep::<M>(values) {
