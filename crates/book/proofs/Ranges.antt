@@ -1,14 +1,12 @@
 -- What `find` and `find_map` answer over the numbers of a range. Assumes nothing.
-use Rattle.std.proofs.Common.{◌≡◌, ℕ, zero, suc, ◌+◌, ◌-◌, ◌<◌, ◌≤◌, Bool, true, false, Some, None, Option, sym, ap, ◌∙◌, subst, arith, Bor}
+use Rattle.std.proofs.Common.{◌≡◌, ℕ, zero, suc, ◌+◌, ◌-◌, ◌<◌, ◌≤◌, Bool, true, false, Some, None, Option, sym, subst, arith, Bor}
 use Rattle.std.specs.Bool.{IsTrue}
 use Rattle.std.specs.Fn.{Called, CalledAt}
 use Rattle.std.specs.Iterator.Runs.{Run, ItemsCountUp, CallKeepsClosure, NoItemPasses, EndsAtFirstPassing, AllItemsGive, IsFirstToGive}
 use Rattle.std.specs.Option.{MatchOption, IfSome, IsSomeAnd, option_map}
-use Rattle.std.specs.Range.{range_inclusive_start, range_inclusive_end, range_inclusive_exhausted}
 use Rattle.std.specs.declared.ops.Range.{Range}
-use Rattle.std.specs.declared.ops.RangeInclusive.{RangeInclusive}
 use Rattle.std.proofs.iter.Yields.{nat_range_steps}
-use Rattle.std.proofs.iter.runs.Sources.{nat_range_inclusive_steps, range_runs, inclusive_listed}
+use Rattle.std.proofs.iter.runs.Sources.{range_runs}
 use denote.Param.Members.{Mut}
 use Rattle.book.specs.Bad.{Finds}
 use Rattle.book.proofs.Searches.{none_further, found_further}
@@ -25,16 +23,6 @@ at_some_item (Some x) n P is h = let same : x ≡ n = cc in subst P same h
 -- the numbers that a range goes over
 pub goes_over : (p : Run nat_range_steps) (low high : ℕ) → p.from ≡ record { start = low; end = high } → ItemsCountUp p low high
 goes_over p low high is = subst (λ (s : Range ℕ). ItemsCountUp p s.start s.end) is (range_runs p p.seen)
-
-pub goes_up_to :
-    (p : Run nat_range_inclusive_steps) (from : RangeInclusive ℕ) (low last : ℕ) → p.from ≡ from → range_inclusive_start from ≡ low
-    → range_inclusive_end from ≡ last → range_inclusive_exhausted from ≡ false → ItemsCountUp p low (last + 1)
-goes_up_to p from low last is begins ends fresh =
-    let listed = inclusive_listed p p.seen in
-    let up = (listed.4 (subst (λ w. range_inclusive_exhausted w ≡ false) (sym is) fresh)).0 in
-    let first : listed.0 ≡ low = listed.2 ∙ ap range_inclusive_start is ∙ begins in
-    let past : listed.1 ≡ last + 1 = listed.3 ∙ ap (λ w. range_inclusive_end w + 1) is ∙ ap (λ n. n + 1) ends in
-    subst (λ n. ItemsCountUp p low n) past (subst (λ n. ItemsCountUp p n listed.1) first up)
 
 -- `find`, where its closure computes a test
 module _ {S F : Type 0} {steps : S → Option ℕ → S → Type 0} (p : Run steps) {g : Mut F (Bor ℕ × Unit {0}) Bool} (f : F) (low high : ℕ) (test : ℕ → Bool) (up : ItemsCountUp p low high) (keeps : CallKeepsClosure g f) (calls : (x : ℕ) (b : Bool) (q : F) → CalledAt g f x b q → b ≡ test x) where

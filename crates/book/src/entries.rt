@@ -45,7 +45,7 @@ impl<'a> Rows<'a> {
         ensures { FirstInPart (entries_at self.now.laid.layout.counts self.now.names) (bad_entry M.Measure.scale self.now.laid.words.now self.now.laid.layout.counts self.now.names) result }
     {
         let entries = self.laid.layout.sections.entries(self.names);
-        (1..=self.laid.layout.counts.junctions)
+        (1..self.laid.layout.counts.junctions + 1)
             .find_map(|junction| self.bad_in_row::<M>(junction))
             .map(|j| entries.place(j))
     }

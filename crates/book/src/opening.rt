@@ -163,7 +163,7 @@ impl<'a> Laid<'a> {
         ensures { FirstInPart (offsets_at self.now.layout.counts names) (bad_offset self.now.words.now self.now.layout.counts names) result }
     {
         let offsets = self.layout.sections.offsets(names);
-        (0..=self.layout.counts.junctions)
+        (0..self.layout.counts.junctions + 1)
             .find(|&j| self.is_bad_offset(names, j))
             .map(|j| offsets.place(j))
     }

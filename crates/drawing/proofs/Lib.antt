@@ -2,3 +2,4 @@ pub mod Crossings
 pub mod Within
 pub mod Verdicts
 pub mod Listed
+mod Numerals

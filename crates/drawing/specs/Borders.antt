@@ -1,6 +1,5 @@
 -- The network that a drawing and its tables hold, and its borders. Assumes nothing.
-use Rattle.std.specs.Prelude.{◌≡◌, ℕ, ◌-◌, Bool, true, false, not, ◌&&◌, List, [], ◌∷◌, ◌++◌, map, length, take, drop, filter, Result, ◌==◌, slice_index}
-use Rattle.std.specs.List.{range_with_len}
+use Rattle.std.specs.Prelude.{◌≡◌, ℕ, ◌-◌, Bool, true, false, not, ◌&&◌, List, [], ◌∷◌, ◌++◌, map, length, take, drop, Result, ◌==◌, slice_index}
 use Rattle.network.specs.Networks.{Network, borders}
 use Rattle.network.specs.Networks as network
 use Rattle.drawing.specs.Edits.{size_check}
@@ -8,8 +7,6 @@ use Rattle.drawing.specs.Outcomes.{Check, verdict, Ends}
 use Rattle.drawing.specs.declared.refusal.Refusal.{Refusal}
 use Rattle.drawing.specs.declared.rest.Rest.{Rest}
 use Rattle.drawing.specs.declared.used.Used.{Used}
-use Rattle.drawing.specs.declared.marks.Marks.{Marks}
-use Rattle.drawing.specs.Marked.{is_marked}
 use Rattle.drawing.specs.declared.tables.Junction.{Junction}
 use Rattle.drawing.specs.declared.tables.Mark.{Mark}
 use Rattle.drawing.specs.declared.tables.Mark.TheVariants.{Open, Closed}
@@ -54,12 +51,6 @@ UsesTheTables d junctions roads r =
 -- the network's borders
 abbrev pub borders_in : Rest → List Junction → List Road → List ℕ
 borders_in d junctions roads = borders (network_of d junctions roads)
-
--- the marks are those of the borders
-abbrev pub MarksTheBorders : Rest → List Junction → List Road → Result Marks Refusal → Type 0
-MarksTheBorders d junctions roads r =
-    Ends (verdict (border_checks d junctions roads)) r (Unit {0})
-    (λ m. filter (is_marked m) (range_with_len 1 d.junctions) ≡ borders_in d junctions roads)
 
 -- the call answers how many borders the drawing has
 abbrev pub CountsTheBorders : Rest → List Junction → List Road → Result ℕ Refusal → Type 0

@@ -1,8 +1,8 @@
 // Finding the borders of a drawing.
-ghost use Rattle.std.specs.Prelude.{◌≡◌, ℕ, ◌≤◌, ◌&&◌, ◌||◌, ◌==◌, map};
+ghost use Rattle.std.specs.Prelude.{◌≡◌, ℕ, ◌≤◌, false, ◌&&◌, ◌||◌, ◌==◌, map};
 ghost use Rattle.network.specs.Networks.{Network, is_border};
 ghost use Rattle.drawing.specs.Marked.{is_marked};
-ghost use Rattle.drawing.specs.Borders.{road_of, places_in, road_crosses, MarksTheBorders, CountsTheBorders, ListsTheBorders};
+ghost use Rattle.drawing.specs.Borders.{road_of, places_in, road_crosses, CountsTheBorders, ListsTheBorders};
 
 use super::tables::used;
 use super::{Junction, Mark, Marks, Refusal, Rest, Road, Used};
@@ -25,31 +25,26 @@ impl<'a> Used<'a> {
         }
     }
 
-    // The marks of the borders: both ends of each road that crosses.
-    fn borders(&self) -> Marks
-        ensures { (net : Network) → net.places ≡ places_in self.now.junctions.now → net.roads ≡ map road_of self.now.roads.now → (v : ℕ) → v ≤ 4096 → is_marked result v ≡ is_border net v }
+    // Marks the borders, both ends of each road that crosses, where nothing is marked yet. (The marks are lent: they are too many to
+    // be handed from call to call.)
+    fn mark_borders(&self, marks: &mut Marks)
+        requires { (v : ℕ) → is_marked marks.old v ≡ false }
+        ensures { (net : Network) → net.places ≡ places_in self.now.junctions.now → net.roads ≡ map road_of self.now.roads.now → (v : ℕ) → v ≤ 4096 → is_marked marks.new v ≡ is_border net v }
     {
-        let mut marks = Marks::new();
         for road in self.roads {
-            self.mark_ends(road, &mut marks);
+            self.mark_ends(road, marks);
         }
-        marks
     }
 }
 
 impl Rest {
-    // The marks of the drawing's borders.
-    fn mark_borders(&self, junctions: &[Junction], roads: &[Road]) -> Result<Marks, Refusal>
-        ensures { MarksTheBorders self.now junctions.now roads.now result }
-    {
-        Ok(self.used(junctions, roads)?.borders())
-    }
-
     // How many junctions are borders: ends of an open road into another district. (The rules lend each table for itself.)
     pub fn count_borders(&self, junctions: &[Junction], roads: &[Road]) -> Result<u64, Refusal>
         ensures { CountsTheBorders self.now junctions.now roads.now result }
     {
-        let marks = self.mark_borders(junctions, roads)?;
+        let used_parts = self.used(junctions, roads)?;
+        let mut marks = Marks::new();
+        used_parts.mark_borders(&mut marks);
         Ok(marks.count(self.junctions))
     }
 
@@ -62,7 +57,9 @@ impl Rest {
     ) -> Result<u64, Refusal>
         ensures { ListsTheBorders self.now junctions.now roads.now list.old result list.new }
     {
-        let marks = self.mark_borders(junctions, roads)?;
+        let used_parts = self.used(junctions, roads)?;
+        let mut marks = Marks::new();
+        used_parts.mark_borders(&mut marks);
         let needed = marks.count(self.junctions);
         used(list, needed)?;
         marks.list(self.junctions, list);

@@ -1,6 +1,6 @@
 // Why a call was refused.
 ghost use Rattle.std.specs.Prelude.{◌≡◌, Some};
-ghost use Rattle.drawing.specs.Refusals.{first_number, written};
+ghost use Rattle.drawing.specs.Refusals.{table_number, first_number, written};
 
 use std::fmt;
 
@@ -10,6 +10,15 @@ pub enum Table {
     Junctions = 1,
     Roads = 2,
     Book = 3,
+}
+
+impl Table {
+    // Which table it is, by the number that users know.
+    fn number(self) -> u64
+        ensures { result ≡ table_number self }
+    {
+        self as u64
+    }
 }
 
 // A refusal. Its numbers, which users meet, are given by `numbers` in specs/Refusals.antt.
@@ -72,15 +81,18 @@ impl fmt::Display for Refusal {
     ghost output = { λ r. Some (written r) };
 
     fn fmt<W: fmt::Write>(&self, f: &mut fmt::Formatter<W>) -> fmt::Result {
-        let number = self.number();
         match *self {
-            Refusal::ShortTable { needed } => write!(f, "{number} {needed}"),
-            Refusal::ShortBook { words } => write!(f, "{number} {words}"),
+            // The number and the space after it are one piece, so that a writer that has no room for both takes neither.
+            Refusal::ShortTable { needed } => write!(f, "3 {needed}"),
+            Refusal::ShortBook { words } => write!(f, "10 {words}"),
             Refusal::BadEntry { table, place } => {
-                let table = table as u64;
-                write!(f, "{number} {table} {place}")
+                let number = table.number();
+                write!(f, "12 {number} {place}")
             }
-            _ => write!(f, "{number}"),
+            _ => {
+                let number = self.number();
+                write!(f, "{number}")
+            }
         }
     }
 }

@@ -17,3 +17,5 @@ mod searches;
 mod six;
 #[cfg(test)]
 mod texts;
+#[cfg(test)]
+mod written;

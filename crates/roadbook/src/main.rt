@@ -15,9 +15,10 @@ const ENTRIES: usize = 8_192;
 // One byte more than a text may have: so much is ever held.
 const HELD: usize = MOST_BYTES + 1;
 
-// Standard input up to its end, or one byte more than a text may have.
+// Standard input up to its end, or one byte more than a text may have. (There is room for a byte more than is read: a reader makes
+// room before it finds the end, and would want more memory in a buffer that is full.)
 fn hold(rt: &HostRuntime, heap: Global) -> anyhow::Result<Vec<u8>> {
-    let mut text = Vec::with_capacity(heap, HELD)?;
+    let mut text = Vec::with_capacity(heap, HELD + 1)?;
     rt.stdin().take(HELD as u64).read_to_end(&mut text)?;
     Ok(text)
 }

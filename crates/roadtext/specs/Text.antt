@@ -22,6 +22,11 @@ abbrev pub fields : List ℕ → List (List ℕ)
 fields [] = [] ∷ []
 fields (b ∷ bs) = cond (b == 32) ([] ∷ fields bs) (put_first b (fields bs))
 
+-- the fields of what is left of a line, where anything is left
+abbrev pub left : Option (List ℕ) → List (List ℕ)
+left None = []
+left (Some bs) = fields bs
+
 -- each byte is a decimal digit
 abbrev pub all_digits : List ℕ → Bool
 all_digits [] = true

@@ -43,15 +43,12 @@ pub struct Fault {
     pub cause: Cause,
 }
 
-// The first number of a fault. Those of a drawing's refusals are below it.
-const FAULT: u64 = 13;
-
-// A fault is written as its numbers, with a space between two.
+// A fault is written as its numbers, with a space between two. The first is above those of a drawing's refusals.
 impl fmt::Display for Fault {
     ghost output = { λ f. Some (written_fault f) };
 
     fn fmt<W: fmt::Write>(&self, f: &mut fmt::Formatter<W>) -> fmt::Result {
         let number = self.cause.number();
-        write!(f, "{FAULT} {} {} {number}", self.line, self.field)
+        write!(f, "13 {} {} {number}", self.line, self.field)
     }
 }

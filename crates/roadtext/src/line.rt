@@ -1,12 +1,12 @@
 // One line of each kind, checked field by field from the left.
-ghost use Rattle.std.specs.Prelude.{◌≡◌, ◌^◌, ◌<◌, [], ◌∷◌};
+ghost use Rattle.std.specs.Prelude.{◌≡◌, ◌≤◌, [], ◌∷◌};
 ghost use Rattle.roadtext.specs.Text.{fields, letter_of};
 ghost use Rattle.roadtext.specs.Lines.{check, no_number, number_at, field_is, junction_checks, end_check, p_checks, a_checks, d_checks, q_checks, passed};
 ghost use Rattle.roadtext.specs.Lines.{head_in, arc_in, move_in, ask_in};
 ghost use Rattle.roadtext.specs.declared.fault.Cause.TheVariants.{Field};
 
 use super::fault::Cause;
-use super::fields::{field, number};
+use super::fields::{Fields, cut, number};
 use super::parts::{Arc, Ask, Head, LineFault, Move};
 use drawing::{MOST_DISTRICTS, MOST_JUNCTIONS, Refusal};
 use measure::Measure;
@@ -15,17 +15,18 @@ use measure::Measure;
 pub(crate) fn letter(line: &[u8]) -> Option<char>
     ensures { result ≡ letter_of (fields line.now) }
 {
-    match field(line, 1) {
+    match cut(Some(line)).0 {
         Some([b]) => Some(char::from(*b)),
         _ => None,
     }
 }
 
 // The number in field number `i`.
-fn number_at(line: &[u8], i: u64) -> Result<u64, LineFault>
-    ensures { result ≡ passed (check i Field (no_number (fields line.now) i) ∷ []) (number_at (fields line.now) i) }
+fn number_at(line: &Fields, i: u64) -> Result<u64, LineFault>
+    requires { (2 ≤ i) × (i ≤ 5) }
+    ensures { result ≡ passed (check i Field (no_number (fields line.now.line.now) i) ∷ []) (number_at (fields line.now.line.now) i) }
 {
-    field(line, i).and_then(number).ok_or(LineFault {
+    line.field(i).and_then(number).ok_or(LineFault {
         field: i,
         cause: Cause::Field,
     })
@@ -44,8 +45,9 @@ pub(crate) fn fault_if(fails: bool, field: u64, cause: Cause) -> Result<(), Line
 
 // The junction in field number `i`, of a drawing with so many. (`line` and `junctions` stay two parameters here and below: a struct
 // of both would be made by each caller for one use.)
-fn junction_at(line: &[u8], i: u64, junctions: u64) -> Result<u64, LineFault>
-    ensures { result ≡ passed (junction_checks junctions (fields line.now) i) (number_at (fields line.now) i) }
+fn junction_at(line: &Fields, i: u64, junctions: u64) -> Result<u64, LineFault>
+    requires { (2 ≤ i) × (i ≤ 5) }
+    ensures { result ≡ passed (junction_checks junctions (fields line.now.line.now) i) (number_at (fields line.now.line.now) i) }
 {
     let n = number_at(line, i)?;
     fault_if(
@@ -57,33 +59,34 @@ fn junction_at(line: &[u8], i: u64, junctions: u64) -> Result<u64, LineFault>
 }
 
 // There is no field after number `i`.
-fn end_after(line: &[u8], i: u64) -> Result<(), LineFault>
-    requires { i < 2 ^ 32 }
-    ensures { result ≡ passed (end_check (fields line.now) i ∷ []) tt }
+fn end_after(line: &Fields, i: u64) -> Result<(), LineFault>
+    requires { (1 ≤ i) × (i ≤ 4) }
+    ensures { result ≡ passed (end_check (fields line.now.line.now) i ∷ []) tt }
 {
-    fault_if(field(line, i + 1).is_some(), i + 1, Cause::Field)
+    fault_if(line.field(i + 1).is_some(), i + 1, Cause::Field)
 }
 
 // Whether field 2 is the word `sp`.
-fn has_sp(line: &[u8]) -> bool
-    ensures { result ≡ field_is (fields line.now) 2 (115 ∷ 112 ∷ []) }
+fn has_sp(line: &Fields) -> bool
+    ensures { result ≡ field_is (fields line.now.line.now) 2 (115 ∷ 112 ∷ []) }
 {
-    matches!(field(line, 2), Some(b"sp"))
+    matches!(line.field(2), Some(b"sp"))
 }
 
 // `p sp N A`, with a junction table of so many entries.
 pub(crate) fn read_head(line: &[u8], places: u64) -> Result<Head, LineFault>
     ensures { result ≡ passed (p_checks places (fields line.now)) (head_in (fields line.now)) }
 {
-    fault_if(!has_sp(line), 2, Cause::Field)?;
-    let junctions = number_at(line, 3)?;
+    let fields = Fields::of(line);
+    fault_if(!has_sp(&fields), 2, Cause::Field)?;
+    let junctions = number_at(&fields, 3)?;
     let bad_count = junctions < 1 || junctions > MOST_JUNCTIONS;
     fault_if(bad_count, 3, Cause::Drawing(Refusal::BadCount))?;
     let too_short = Refusal::ShortTable { needed: junctions };
     fault_if(places < junctions, 3, Cause::Drawing(too_short))?;
-    let arcs = number_at(line, 4)?;
+    let arcs = number_at(&fields, 4)?;
     fault_if(arcs % 2 != 0, 4, Cause::Twin)?;
-    end_after(line, 4)?;
+    end_after(&fields, 4)?;
     Ok(Head { junctions, arcs })
 }
 
@@ -91,12 +94,13 @@ pub(crate) fn read_head(line: &[u8], places: u64) -> Result<Head, LineFault>
 pub(crate) fn read_arc<M: Measure>(line: &[u8], junctions: u64) -> Result<Arc, LineFault>
     ensures { result ≡ passed (a_checks M.Measure.scale junctions (fields line.now)) (arc_in (fields line.now)) }
 {
-    let from = junction_at(line, 2, junctions)?;
-    let to = junction_at(line, 3, junctions)?;
+    let fields = Fields::of(line);
+    let from = junction_at(&fields, 2, junctions)?;
+    let to = junction_at(&fields, 3, junctions)?;
     fault_if(from == to, 3, Cause::Drawing(Refusal::EndsAlike))?;
-    let worth = number_at(line, 4)?;
+    let worth = number_at(&fields, 4)?;
     fault_if(!M::is_lawful(worth), 4, Cause::Drawing(Refusal::NotLawful))?;
-    end_after(line, 4)?;
+    end_after(&fields, 4)?;
     Ok(Arc { from, to, worth })
 }
 
@@ -104,14 +108,15 @@ pub(crate) fn read_arc<M: Measure>(line: &[u8], junctions: u64) -> Result<Arc, L
 pub(crate) fn read_move(line: &[u8], junctions: u64) -> Result<Move, LineFault>
     ensures { result ≡ passed (d_checks junctions (fields line.now)) (move_in (fields line.now)) }
 {
-    let junction = junction_at(line, 2, junctions)?;
-    let district = number_at(line, 3)?;
+    let fields = Fields::of(line);
+    let junction = junction_at(&fields, 2, junctions)?;
+    let district = number_at(&fields, 3)?;
     fault_if(
         district >= MOST_DISTRICTS,
         3,
         Cause::Drawing(Refusal::NoDistrict),
     )?;
-    end_after(line, 3)?;
+    end_after(&fields, 3)?;
     Ok(Move { junction, district })
 }
 
@@ -119,8 +124,9 @@ pub(crate) fn read_move(line: &[u8], junctions: u64) -> Result<Move, LineFault>
 pub(crate) fn read_ask(line: &[u8], junctions: u64) -> Result<Ask, LineFault>
     ensures { result ≡ passed (q_checks junctions (fields line.now)) (ask_in (fields line.now)) }
 {
-    let from = junction_at(line, 2, junctions)?;
-    let to = junction_at(line, 3, junctions)?;
-    end_after(line, 3)?;
+    let fields = Fields::of(line);
+    let from = junction_at(&fields, 2, junctions)?;
+    let to = junction_at(&fields, 3, junctions)?;
+    end_after(&fields, 3)?;
     Ok(Ask { from, to })
 }

@@ -67,11 +67,12 @@ pub(crate) struct Head {
     pub arcs: u64,
 }
 
-// A fault of a line: the field, counted from 1, and the cause.
+// A fault of a line: the cause, and the field, counted from 1. (The cause comes first, so that it lies at the same place in a fault
+// and in a result that holds one: moving faults then costs less.)
 #[derive(Clone, Copy, PartialEq, Eq, Debug)]
 pub(crate) struct LineFault {
-    pub field: u64,
     pub cause: Cause,
+    pub field: u64,
 }
 
 impl LineFault {

@@ -30,11 +30,12 @@ pub(crate) enum Event {
     Ask(Ask),
 }
 
-// A line read: how far that brings the reading, and what the line adds, if anything.
+// A line read: what the line adds, if anything, and how far that brings the reading. (The event comes first, so that it lies at the
+// same place in a step and in a result that holds one: moving steps then costs less.)
 #[derive(Clone, Copy, PartialEq, Eq, Debug)]
 pub(crate) struct Step {
-    pub(crate) progress: Progress,
     pub(crate) event: Option<Event>,
+    pub(crate) progress: Progress,
 }
 
 // What is awaited when so many arc lines are to come.

@@ -9,4 +9,4 @@ pub returns : goal.returns
 returns c =
     c.fault_if.ensures
     ∙ ap (λ b. passed (check (c.args.i + 1) Field b ∷ []) tt)
-    (c.is_some.ensures ∙ is_there (fields c.args.line.now) c.args.i c.field.result c.field.ensures)
+    (c.is_some.ensures ∙ is_there (fields c.args.line.now.line.now) c.args.i c.field.result c.field.ensures)

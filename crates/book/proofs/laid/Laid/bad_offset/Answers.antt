@@ -1,7 +1,7 @@
 use Rattle.std.proofs.Common.{rules, ap, ◌∙◌, ◌+◌}
 use Rattle.book.specs.Bad.{part, offsets_at, bad_offset}
 use Rattle.book.proofs.Parts.{first_of_part}
-use Rattle.book.proofs.Ranges.{goes_up_to, found_first}
+use Rattle.book.proofs.Ranges.{goes_over, found_first}
 use Rattle.book.specs.declared.span.Span.{Span}
 use Rattle.book.proofs.RowAt.{spans_offsets}
 use Rattle.book.proofs.SectionWords.{offsets_size}
@@ -16,6 +16,6 @@ returns c =
     first_of_part (part (offsets_at counts names) test) c.offsets-offsets.result.first (counts.junctions + 1)
     (ap (λ (p : Span). p.first) c.offsets-offsets.ensures ∙ (spans_offsets counts c.args.self.now.layout.sections names c.args.self.now.layout.laid).first) (offsets_size counts names) _ _
     (found_first run.0 _ 0 (counts.junctions + 1) test
-    (goes_up_to run.0 c.new.result 0 counts.junctions run.1 c.new.ensures.start c.new.ensures.end c.new.ensures.exhausted)
+    (goes_over run.0 0 (counts.junctions + 1) run.1)
     (λ a b q k. search rules) (λ x b q k. search rules) c.find.result run.2)
     c.map.ensures.cases (λ j i k. search rules)

@@ -4,7 +4,7 @@ use Rattle.network.specs.Networks.{arcs_of, at_a_crossing}
 use Rattle.drawing.specs.Marked.{is_marked}
 use Rattle.drawing.specs.Borders.{road_of, road_crosses}
 use Rattle.drawing.proofs.Crossings.{road_at, one_road_more}
-use Rattle.drawing.proofs.used.Used.borders.Goals as goal
+use Rattle.drawing.proofs.used.Used.mark_borders.Goals as goal
 
 pub loop-road-preserved : goal.loop-road-preserved
 loop-road-preserved c =
