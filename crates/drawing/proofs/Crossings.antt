@@ -8,16 +8,17 @@ use Rattle.network.specs.Lists.{count_up}
 use Rattle.network.specs.Networks.{Network, district, arcs_of, crosses, at_a_crossing, is_border, borders}
 use Rattle.network.specs.Networks as network
 use Rattle.network.specs.Walks.{Arc, arc}
-use Rattle.drawing.specs.Borders.{is_open, road_of, road_crosses, places_in, network_of, borders_in}
+use Rattle.drawing.specs.Borders.{is_open, road_of, road_crosses, places_in, network_of, border_checks, borders_in, UsesTheTables}
 use Rattle.drawing.specs.Marked.{is_marked}
 use Rattle.drawing.specs.declared.marks.Marks.{Marks}
 use Rattle.drawing.specs.Edits.{open_road}
-use Rattle.drawing.specs.Outcomes.{Ends}
+use Rattle.drawing.specs.Outcomes.{verdict, Ends}
 use Rattle.drawing.specs.declared.refusal.Refusal.{Refusal}
 use Rattle.drawing.specs.declared.rest.Rest.{Rest}
 use Rattle.drawing.specs.declared.tables.Junction.{Junction}
 use Rattle.drawing.specs.declared.tables.Road.{Road}
 use Rattle.drawing.specs.declared.used.Used.{Used}
+use Rattle.drawing.proofs.Verdicts.{used_means}
 
 -- the road in record number i of a table
 abbrev pub road_at : List Road → ℕ → Road
@@ -100,12 +101,17 @@ marked_are_borders m net few h =
 pub accepted : {A : Type 0} (v : Result Unit Refusal) (a : A) (same : Type 0) (done : A → Type 0) → v ≡ Ok tt → done a → Ends v (Ok a) same done
 accepted v a same done e h = rw e h
 
--- marks that are those of the borders in the parts of two tables that a drawing uses are those of its borders
-pub borders_marked :
-    (d : Rest) (junctions : List Junction) (roads : List Road) (u : Used) (m : Marks)
-    → (u.junctions.now ≡ take d.junctions junctions) × (u.roads.now ≡ take d.roads roads)
+-- What is known once the borders are marked in the parts of two tables that a drawing uses, and the marks counted: both tables were
+-- long enough, the count is that of the borders, and the marked junctions are they.
+pub borders_known :
+    (d : Rest) (junctions : List Junction) (roads : List Road) (u : Used) (m : Marks) (n : ℕ) → UsesTheTables d junctions roads (Ok u)
     → ((net : Network) → net.places ≡ places_in u.junctions.now → net.roads ≡ map road_of u.roads.now → (v : ℕ) → v ≤ 4096 → is_marked m v ≡ is_border net v)
-    → filter (is_marked m) (range_with_len 1 d.junctions) ≡ borders_in d junctions roads
-borders_marked d junctions roads u m used h =
+    → n ≡ length (filter (is_marked m) (range_with_len 1 d.junctions))
+    → (verdict (border_checks d junctions roads) ≡ Ok tt)
+    × ((n ≡ length (borders_in d junctions roads)) × (filter (is_marked m) (range_with_len 1 d.junctions) ≡ borders_in d junctions roads))
+borders_known d junctions roads u m n used marks counted =
+    let parts = used_means d junctions roads u used in
+    let marked =
     marked_are_borders m (network_of d junctions roads) d.few_junctions
-    (h (network_of d junctions roads) (sym (ap places_in used.0)) (sym (ap (map road_of) used.1)))
+    (marks (network_of d junctions roads) (sym (ap places_in parts.1.0)) (sym (ap (map road_of) parts.1.1))) in
+    (parts.0, (counted ∙ ap length marked, marked))
